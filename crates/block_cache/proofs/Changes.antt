@@ -1,6 +1,6 @@
 -- What a life is once it has changed.
 use Rattle.std.proofs.Common.{◌≡◌, ℕ, zero, suc, ◌<◌, ◌≤◌, Bool, true, false, List, [], ◌∷◌, ◌++◌, length, take, drop, Option, Some, None, refl, sym, ◌∙◌, ap, arith, slice_get, length-drop}
-use Rattle.std.specs.Prelude.{IsTrue, is_some, nat_lt, ◌||◌, option_map, slice_set}
+use Rattle.std.specs.Prelude.{Contains, IsTrue, is_some, nat_lt, ◌||◌, option_map, slice_set}
 use Rattle.std.specs.List.{last_or}
 use Rattle.std.proofs.Common.{subst}
 use Rattle.std.specs.Prelude.{unwrap_or}
@@ -15,10 +15,10 @@ use Rattle.block_cache.specs.declared.entry.Entry.{Entry}
 use Rattle.block_cache.specs.Claims.{claimed_state}
 use Rattle.block_cache.specs.Cached.{CachedLife}
 use Rattle.block_cache.specs.Undone.{before, states_from, entries_under, durable_in, life_with, life_of, lives_of}
-use Rattle.block_cache.specs.Kept.{IsApart, AreOf, IsKept, AreKept, AreUsed, place_at, change_place, appended, settled}
+use Rattle.block_cache.specs.Kept.{AreOf, IsKept, AreKept, AreUsed, place_at, change_place, appended, settled}
 use Rattle.block_cache.specs.Views.{image_at, HasImage}
 use Rattle.block_cache.proofs.Undoing.{before-append, states_from-append, length-states_from, drop-states_from, image_from, last_image}
-use Rattle.block_cache.proofs.Keys.{AreSame, same_entries, same_keys, length-entries_of, drop-entries_of, entries_of-append, vacant_apart, updated_same, keys_push, front_apart, apart_same, drop_keys, others_apart}
+use Rattle.block_cache.proofs.Keys.{AreSame, same_entries, same_keys, length-entries_of, drop-entries_of, entries_of-append, vacant_apart, updated_same, keys_push, front_apart, drop_keys, others_apart}
 use Rattle.block_cache.proofs.WrittenPlaces.{KeepsOthers, lives_of-set, kept-set, life-life_at}
 
 -- Reads
@@ -65,9 +65,9 @@ inserted_keeps old new places b k o kept vacant updates c l ne at =
     updated_same old new k o l.keys updates (vacant_apart old c k l.keys vacant (kept.each c l at).keys)
 
 pub removed_keeps : (old new : Slab Entry) (places : List (Option CachedLife)) (b : ℕ) (ks : List ℕ) → AreKept old places → AreOf old b ks →
-    ((q : ℕ) → IsApart q ks → get new q ≡ get old q) → KeepsOthers old new b places
+    ((q : ℕ) → (Contains ks q → ⊥) → get new q ≡ get old q) → KeepsOthers old new b places
 removed_keeps old new places b ks kept own others c l ne at =
-    apart_same old new ks l.keys others (others_apart old b c ks l.keys ne own (kept.each c l at).keys)
+    λ q i. others q (others_apart old b c ks l.keys ne own (kept.each c l at).keys q i)
 
 -- One entry more
 
@@ -127,11 +127,11 @@ durable_then d (e ∷ es) m (suc k) some within =
     ∙ ap (λ z. Some (on_disk z)) (last_image s es m k (omega arith) refl)
 
 pub settled_same : (old new : Slab Entry) (b : ℕ) (l : CachedLife) (k : ℕ) → IsKept old b l →
-    ((q : ℕ) → IsApart q (take k l.keys) → get new q ≡ get old q) → AreSame old new (drop k l.keys)
-settled_same old new b l k kept others = apart_same old new (take k l.keys) (drop k l.keys) others (front_apart old b k l.keys kept.keys)
+    ((q : ℕ) → (Contains (take k l.keys) q → ⊥) → get new q ≡ get old q) → AreSame old new (drop k l.keys)
+settled_same old new b l k kept others = λ q i. others q (front_apart old b k l.keys kept.keys q i)
 
 pub settled_life : (old new : Slab Entry) (b : ℕ) (l : CachedLife) (k : ℕ) → IsKept old b l → 1 ≤ k → k ≤ length l.keys →
-    ((q : ℕ) → IsApart q (take k l.keys) → get new q ≡ get old q) → life_of new (settled k l) ≡ settle k (life_of old l)
+    ((q : ℕ) → (Contains (take k l.keys) q → ⊥) → get new q ≡ get old q) → life_of new (settled k l) ≡ settle k (life_of old l)
 settled_life old new b l k kept some within others =
     let es = entries_under old l.keys in
     let m = l.current in
@@ -150,7 +150,7 @@ settled_life old new b l k kept some within others =
     })
 
 pub settled_kept : (old new : Slab Entry) (b : ℕ) (l : CachedLife) (k : ℕ) → IsKept old b l →
-    ((q : ℕ) → IsApart q (take k l.keys) → get new q ≡ get old q) → IsKept new b (settled k l)
+    ((q : ℕ) → (Contains (take k l.keys) q → ⊥) → get new q ≡ get old q) → IsKept new b (settled k l)
 settled_kept old new b l k kept others = record {
   keys = same_keys old new b (drop k l.keys) (settled_same old new b l k kept others) (drop_keys old b k l.keys kept.keys);
   few = omega (arith, length-drop k l.keys, kept.few);
@@ -208,8 +208,4 @@ place_kept slab places b l kept e = kept.each b l (at_place (slice_get places b)
     at_place (Some y) x e = ap (λ z. Some z) e
 
 pub same_slab_keeps : (slab : Slab Entry) (places : List (Option CachedLife)) (b : ℕ) → KeepsOthers slab slab b places
-same_slab_keeps slab places b c l ne at = all_same l.keys
-  where
-    all_same : (ks : List ℕ) → AreSame slab slab ks
-    all_same [] = tt
-    all_same (k ∷ ks) = (refl, all_same ks)
+same_slab_keeps slab places b c l ne at = λ k i. refl

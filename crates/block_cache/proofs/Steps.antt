@@ -1,6 +1,6 @@
 -- What each call leaves of the places and the slab.
-use Rattle.std.proofs.Common.{◌≡◌, ℕ, ◌<◌, ◌≤◌, Bool, List, [], ◌∷◌, length, take, drop, Option, Some, None, refl, sym, ◌∙◌, ap, arith, subst}
-use Rattle.std.specs.Prelude.{IsTrue, IfSome, is_some, option_map, slice_set}
+use Rattle.std.proofs.Common.{◌≡◌, ℕ, ◌<◌, ◌≤◌, Bool, List, length, take, drop, Option, Some, None, refl, sym, ◌∙◌, ap, arith, subst}
+use Rattle.std.specs.Prelude.{Contains, IsTrue, IfSome, is_some, option_map, slice_set}
 use Rattle.slab.specs.Slab.{Slab, get, Updates}
 use Rattle.xn_model.specs.declared.status.Status.{Status}
 use Rattle.xn_model.specs.Lives as model
@@ -13,9 +13,9 @@ use Rattle.block_cache.specs.declared.new_bytes.NewBytes.{NewBytes}
 use Rattle.block_cache.specs.NewBytes.{appended_by, new_bytes}
 use Rattle.block_cache.specs.Named.{places_named}
 use Rattle.block_cache.specs.Undone.{before, entries_under, life_of, lives_of}
-use Rattle.block_cache.specs.Kept.{IsApart, IsAmong, AreOf, IsKept, AreKept, IsWhole, place_at, change_place, appended, settled, cached_with_status, with_begun, first_keys}
+use Rattle.block_cache.specs.Kept.{AreOf, IsKept, AreKept, IsWhole, place_at, change_place, appended, settled, cached_with_status, with_begun, first_keys}
 use Rattle.block_cache.specs.Views.{HasImage, image_at}
-use Rattle.block_cache.proofs.Keys.{AreSame, same_keys, take_keys}
+use Rattle.block_cache.proofs.Keys.{same_keys, take_keys}
 use Rattle.block_cache.proofs.Used.{used_append, used_kept, used_settle}
 use Rattle.block_cache.proofs.WrittenPlaces.{KeepsOthers, life-life_at}
 use Rattle.block_cache.proofs.Changes.{length-pending, current_of_life, image_of_life, inserted_keeps, removed_keeps, appended_life, appended_kept, settled_life, settled_kept, given_up_life, lives_of-change, kept-change, place_kept, same_slab_keeps}
@@ -83,13 +83,9 @@ few_keys slab places lives b k kept view within =
 pub same_gets : (old mid : Slab Entry) (n : ℕ) → mid ≡ record old { capacity = n } → (k : ℕ) → get mid k ≡ get old k
 same_gets old mid n e k = ap (λ (s : Slab Entry). get s k) e
 
-gets_same : (old mid : Slab Entry) → ((k : ℕ) → get mid k ≡ get old k) → (ks : List ℕ) → AreSame old mid ks
-gets_same old mid same [] = tt
-gets_same old mid same (k ∷ ks) = (same k, gets_same old mid same ks)
-
 pub grown_kept : (old mid : Slab Entry) (places : List (Option CachedLife)) → ((k : ℕ) → get mid k ≡ get old k) → AreKept old places → AreKept mid places
 grown_kept old mid places same kept = record {
-  each = λ b l at. let k = kept.each b l at in record { keys = same_keys old mid b l.keys (gets_same old mid same l.keys) k.keys; few = k.few; begun = k.begun; has_state = k.has_state };
+  each = λ b l at. let k = kept.each b l at in record { keys = same_keys old mid b l.keys (λ q i. same q) k.keys; few = k.few; begun = k.begun; has_state = k.has_state };
   used = λ k e at. kept.used k e (sym (same k) ∙ at);
   few = kept.few;
 }
@@ -168,14 +164,14 @@ first_own slab b k (Some l) kept = take_keys slab b k l.keys (kept l refl).keys
 
 module _ (old new : Slab Entry) (places : List (Option CachedLife)) (lives : Lives) (b k : ℕ)
     (kept : AreKept old places) (view : lives_of old places ≡ lives)
-    (others : (q : ℕ) → IsApart q (first_keys k (place_at places b)) → get new q ≡ get old q) where
+    (others : (q : ℕ) → (Contains (first_keys k (place_at places b)) q → ⊥) → get new q ≡ get old q) where
   rest : KeepsOthers old new b places
   rest = removed_keeps old new places b (first_keys k (place_at places b)) kept (first_own old b k (place_at places b) (λ l at. place_kept old places b l kept at)) others
 
-  own : (l : CachedLife) → place_at places b ≡ Some l → (q : ℕ) → IsApart q (take k l.keys) → get new q ≡ get old q
-  own l at q apart = others q (let P : Option CachedLife → Type 0 = λ o. IsApart q (first_keys k o) in subst P (sym at) apart)
+  own : (l : CachedLife) → place_at places b ≡ Some l → (q : ℕ) → (Contains (take k l.keys) q → ⊥) → get new q ≡ get old q
+  own l at q apart = others q (let P : Option CachedLife → Type 0 = λ o. Contains (first_keys k o) q → ⊥ in subst P (sym at) apart)
 
-  pub settle_kept : ((q : ℕ) → IsAmong q (first_keys k (place_at places b)) → get new q ≡ None) → AreKept new (change_place places b (settled k))
+  pub settle_kept : ((q : ℕ) → Contains (first_keys k (place_at places b)) q → get new q ≡ None) → AreKept new (change_place places b (settled k))
   settle_kept gone =
       kept-change old new places b (settled k) kept rest (λ l at. settled_kept old new b l k (place_kept old places b l kept at) (own l at))
       (used_settle old new places b k kept.used others gone)

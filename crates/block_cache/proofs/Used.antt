@@ -1,63 +1,45 @@
 -- Each entry is one of a life.
 use Rattle.std.proofs.Common.{◌≡◌, ◌≢◌, ◌⊎◌, inl, inr, ⊎_elim, ℕ, zero, suc, ◌+◌, ◌<◌, List, [], ◌∷◌, ◌++◌, length, take, drop, get_or, Option, Some, None, refl, sym, ◌∙◌, ap, arith, subst, slice_get}
-use Rattle.std.specs.Prelude.{IsTrue, is_some, option_map, slice_set, unwrap_or}
-use Rattle.std.proofs.lemmas.Bool.{cases_eq, false≢true}
+use Rattle.std.specs.Prelude.{Contains, IsTrue, is_some, option_map, slice_set, unwrap_or}
+use Rattle.std.proofs.lemmas.Bool.{cases_Bool, cases_eq, false≢true}
 use Rattle.std.proofs.lemmas.Option.{none-some, same_Some, slice_get_within}
+use Rattle.std.proofs.lemmas.List.{take-append-drop, take_more}
+use Rattle.std.proofs.lemmas.List.Elements.{Contains-append_cases, Contains-append_left, Contains-push, Contains-push_cases}
 use Rattle.slab.specs.Slab.{Slab, get, Updates}
+use Rattle.xn_model.specs.Lists.{has_number}
+use Rattle.xn_model.proofs.ForCallers.{has_number_at, has_number_from}
 use Rattle.block_cache.specs.declared.entry.Entry.{Entry}
 use Rattle.block_cache.specs.Cached.{CachedLife}
-use Rattle.block_cache.specs.Kept.{IsApart, IsAmong, IsUsed, AreUsed, place_at, change_place, appended, settled, first_keys, keys_of}
+use Rattle.block_cache.specs.Kept.{IsUsed, AreUsed, place_at, change_place, appended, settled, first_keys, keys_of}
 
 abbrev Places : Type 0
 Places = List (Option CachedLife)
 
 -- Keys among others
 
-pub apart_or_among : (k : ℕ) (ks : List ℕ) → IsApart k ks ⊎ IsAmong k ks
-apart_or_among k [] = inl tt
-apart_or_among k (q ∷ ks) = elim (cases_eq q k) [
-  | inl same ↦ inr (inl same)
-  | inr ne ↦ ⊎_elim (λ apart. inl (ne, apart)) (λ among. inr (inr among)) (apart_or_among k ks)
+pub apart_or_among : (k : ℕ) (ks : List ℕ) → (Contains ks k → ⊥) ⊎ Contains ks k
+apart_or_among k ks = elim (cases_Bool (has_number ks k)) [
+  | inl t ↦ inr (has_number_at ks k t)
+  | inr f ↦ inl (λ i. false≢true (sym f ∙ has_number_from ks k i))
 ]
 
-never_both : (k : ℕ) (ks : List ℕ) → IsApart k ks → IsAmong k ks → ⊥
-never_both k [] apart among = absurd among
-never_both k (q ∷ ks) apart (inl same) = apart.0 same
-never_both k (q ∷ ks) apart (inr among) = never_both k ks apart.1 among
-
-among_front : (k : ℕ) (ks qs : List ℕ) → IsAmong k ks → IsAmong k (ks ++ qs)
-among_front k [] qs among = absurd among
-among_front k (x ∷ ks) qs (inl same) = inl same
-among_front k (x ∷ ks) qs (inr among) = inr (among_front k ks qs among)
-
-among_last : (k : ℕ) (ks : List ℕ) → IsAmong k (ks ++ k ∷ [])
-among_last k [] = inl refl
-among_last k (x ∷ ks) = inr (among_last k ks)
-
-among_rest : (k n : ℕ) (ks : List ℕ) → IsAmong k ks → IsApart k (take n ks) → IsAmong k (drop n ks)
-among_rest k zero ks among apart = among
-among_rest k (suc n) [] among apart = among
-among_rest k (suc n) (x ∷ ks) (inl same) apart = absurd (apart.0 same)
-among_rest k (suc n) (x ∷ ks) (inr among) apart = among_rest k n ks among apart.1
+among_rest : (k n : ℕ) (ks : List ℕ) → Contains ks k → (Contains (take n ks) k → ⊥) → Contains (drop n ks) k
+among_rest k n ks among apart = elim (Contains-append_cases (take n ks) (drop n ks) k (rw (take-append-drop n ks) among)) [
+  | inl front ↦ absurd (apart front)
+  | inr rest ↦ rest
+]
 
 -- one key more
-among_next : (k : ℕ) (ks : List ℕ) (i q : ℕ) → i < length ks → q ≡ get_or ks i 0 → IsAmong k (take (suc i) ks) → IsAmong k (take i ks) ⊎ (q ≡ k)
-among_next k [] i q within is among = absurd (omega arith)
-among_next k (x ∷ ks) zero q within is (inl same) = inr (is ∙ same)
-among_next k (x ∷ ks) zero q within is (inr among) = absurd among
-among_next k (x ∷ ks) (suc i) q within is (inl same) = inl (inl same)
-among_next k (x ∷ ks) (suc i) q within is (inr among) = ⊎_elim (λ front. inl (inr front)) (λ here. inr here) (among_next k ks i q (omega (arith, within)) is among)
-
-pub gone_more : (old new : Slab Entry) (ks : List ℕ) (i q : ℕ) → i < length ks → q ≡ get_or ks i 0 → Updates old new q None → ((k : ℕ) → IsAmong k (take i ks) → get old k ≡ None) →
-    (k : ℕ) → IsAmong k (take (i + 1) ks) → get new k ≡ None
+pub gone_more : (old new : Slab Entry) (ks : List ℕ) (i q : ℕ) → i < length ks → q ≡ get_or ks i 0 → Updates old new q None → ((k : ℕ) → Contains (take i ks) k → get old k ≡ None) →
+    (k : ℕ) → Contains (take (i + 1) ks) k → get new k ≡ None
 gone_more old new ks i q within is updates before k among =
-    let next : i + 1 ≡ suc i = omega arith in
     let gone : k ≡ q → get new k ≡ None = λ same. ap (get new) same ∙ updates.changed in
     elim (cases_eq k q) [
       | inl same ↦ gone same
-      | inr ne ↦
-          ⊎_elim (λ front. updates.others k ne ∙ before k front) (λ here. gone (sym here))
-          (among_next k ks i q within is (let P : ℕ → Type 0 = λ n. IsAmong k (take n ks) in subst P next among))
+      | inr ne ↦ elim (Contains-push_cases (take i ks) (get_or ks i 0) k (subst (λ xs. Contains xs k) (take_more ks i 0 within) among)) [
+        | inl front ↦ updates.others k ne ∙ before k front
+        | inr here ↦ gone (sym here ∙ sym is)
+      ]
     ]
 
 -- Places that are written
@@ -79,7 +61,7 @@ used_other : (places : Places) (b c k : ℕ) (x : Option CachedLife) → c ≢ b
 used_other places b c k x ne u = record { life = u.life; there = there_other places b c x ne ∙ u.there; among = u.among }
 
 -- an entry of this block, whose life changes
-used_here : (places : Places) (b c k : ℕ) (f : CachedLife → CachedLife) (u : IsUsed places c k) → c ≡ b → IsAmong k (f u.life).keys → IsUsed (change_place places b f) c k
+used_here : (places : Places) (b c k : ℕ) (f : CachedLife → CachedLife) (u : IsUsed places c k) → c ≡ b → Contains (f u.life).keys k → IsUsed (change_place places b f) c k
 used_here places b c k f u same among =
     let P : ℕ → Type 0 = λ j. slice_get places j ≡ Some (Some u.life) in
     let there = subst P same u.there in
@@ -96,7 +78,7 @@ pub used_kept : (slab : Slab Entry) (places : Places) (b : ℕ) (f : CachedLife 
 used_kept slab places b f keys used k e at =
     let u = used k e at in
     elim (cases_eq e.block b) [
-      | inl same ↦ used_here places b e.block k f u same (let P : List ℕ → Type 0 = λ ks. IsAmong k ks in subst P (sym (keys u.life)) u.among)
+      | inl same ↦ used_here places b e.block k f u same (let P : List ℕ → Type 0 = λ ks. Contains ks k in subst P (sym (keys u.life)) u.among)
       | inr ne ↦ used_other places b e.block k (option_map f (place_at places b)) ne u
     ]
 
@@ -111,7 +93,7 @@ used_append old new places b k e bytes used updates own alive q e' at =
       | inr ne ↦
           let u = used q e' (sym (updates.others q ne) ∙ at) in
           elim (cases_eq e'.block b) [
-            | inl here ↦ used_here places b e'.block q (appended k bytes) u here (among_front q u.life.keys (k ∷ []) u.among)
+            | inl here ↦ used_here places b e'.block q (appended k bytes) u here (Contains-append_left u.life.keys (k ∷ []) q u.among)
             | inr other ↦ used_other places b e'.block q (option_map (appended k bytes) (place_at places b)) other u
           ]
     ]
@@ -124,23 +106,23 @@ used_append old new places b k e bytes used updates own alive q e' at =
     first None at t q e' same here = absurd (false≢true t)
     first (Some l) at t q e' same here =
         let P : ℕ → Type 0 = λ j. slice_get (change_place places b (appended k bytes)) j ≡ Some (Some (appended k bytes l)) in
-        let Q : ℕ → Type 0 = λ j. IsAmong j (l.keys ++ k ∷ []) in
+        let Q : ℕ → Type 0 = λ j. Contains (l.keys ++ k ∷ []) j in
         record {
           life = appended k bytes l;
           there = subst P (sym here) (there_same places b (option_map (appended k bytes) (place_at places b)) (within_of (slice_get places b) l refl at) ∙ ap (λ o. Some (option_map (appended k bytes) o)) at);
-          among = subst Q (sym same) (among_last k l.keys);
+          among = subst Q (sym same) (Contains-push l.keys k);
         }
 
 -- the first entries forgotten
-pub used_settle : (old new : Slab Entry) (places : Places) (b n : ℕ) → AreUsed old places → ((q : ℕ) → IsApart q (first_keys n (place_at places b)) → get new q ≡ get old q) →
-    ((q : ℕ) → IsAmong q (first_keys n (place_at places b)) → get new q ≡ None) → AreUsed new (change_place places b (settled n))
+pub used_settle : (old new : Slab Entry) (places : Places) (b n : ℕ) → AreUsed old places → ((q : ℕ) → (Contains (first_keys n (place_at places b)) q → ⊥) → get new q ≡ get old q) →
+    ((q : ℕ) → Contains (first_keys n (place_at places b)) q → get new q ≡ None) → AreUsed new (change_place places b (settled n))
 used_settle old new places b n used rest gone q e at =
     ⊎_elim
     (λ apart.
     let u = used q e (sym (rest q apart) ∙ at) in
     elim (cases_eq e.block b) [
       | inl here ↦
-          let P : Option CachedLife → Type 0 = λ o. IsApart q (first_keys n o) in
+          let P : Option CachedLife → Type 0 = λ o. Contains (first_keys n o) q → ⊥ in
           used_here places b e.block q (settled n) u here (among_rest q n u.life.keys u.among (subst P (used_at places b e.block q u here) apart))
       | inr other ↦ used_other places b e.block q (option_map (settled n) (place_at places b)) other u
     ])
@@ -148,16 +130,16 @@ used_settle old new places b n used rest gone q e at =
     (apart_or_among q (first_keys n (place_at places b)))
 
 -- all entries of a life forgotten
-pub used_end : (old new : Slab Entry) (places : Places) (b : ℕ) → AreUsed old places → ((q : ℕ) → IsApart q (keys_of (place_at places b)) → get new q ≡ get old q) →
-    ((q : ℕ) → IsAmong q (keys_of (place_at places b)) → get new q ≡ None) → AreUsed new (slice_set places b None)
+pub used_end : (old new : Slab Entry) (places : Places) (b : ℕ) → AreUsed old places → ((q : ℕ) → (Contains (keys_of (place_at places b)) q → ⊥) → get new q ≡ get old q) →
+    ((q : ℕ) → Contains (keys_of (place_at places b)) q → get new q ≡ None) → AreUsed new (slice_set places b None)
 used_end old new places b used rest gone q e at =
     ⊎_elim
     (λ apart.
     let u = used q e (sym (rest q apart) ∙ at) in
     elim (cases_eq e.block b) [
       | inl here ↦
-          let P : Option CachedLife → Type 0 = λ o. IsApart q (keys_of o) in
-          absurd (never_both q u.life.keys (subst P (used_at places b e.block q u here) apart) u.among)
+          let P : Option CachedLife → Type 0 = λ o. Contains (keys_of o) q → ⊥ in
+          absurd (subst P (used_at places b e.block q u here) apart u.among)
       | inr other ↦ used_other places b e.block q None other u
     ])
     (λ among. absurd (none-some e (sym (gone q among) ∙ at)))
@@ -165,14 +147,14 @@ used_end old new places b used rest gone q e at =
 
 -- with its first entry
 pub used_start : (old new : Slab Entry) (places : Places) (b k : ℕ) (e : Entry) (l : CachedLife) → AreUsed old places → Updates old new k (Some e) → e.block ≡ b → b < length places → place_at places b ≡ None →
-    IsAmong k l.keys → AreUsed new (slice_set places b (Some l))
+    Contains l.keys k → AreUsed new (slice_set places b (Some l))
 used_start old new places b k e l used updates own within free mine q e' at =
     elim (cases_eq q k) [
       | inl same ↦
           let is : e' ≡ e = same_Some e' e (sym at ∙ (ap (get new) same ∙ updates.changed)) in
           let here = ap (λ (x : Entry). x.block) is ∙ own in
           let P : ℕ → Type 0 = λ j. slice_get (slice_set places b (Some l)) j ≡ Some (Some l) in
-          let Q : ℕ → Type 0 = λ j. IsAmong j l.keys in
+          let Q : ℕ → Type 0 = λ j. Contains l.keys j in
           record { life = l; there = subst P (sym here) (there_same places b (Some l) within); among = subst Q (sym same) mine }
       | inr ne ↦
           let u = used q e' (sym (updates.others q ne) ∙ at) in

@@ -1,5 +1,5 @@
 -- What is kept beside the bytes and the entries.
-use Rattle.std.specs.Prelude.{◌≡◌, ◌≢◌, ◌⊎◌, ℕ, ◌^◌, ◌<◌, ◌≤◌, Bool, List, [], ◌∷◌, ◌++◌, length, take, drop, true, false, Option, Some, None, slice_get}
+use Rattle.std.specs.Prelude.{◌≡◌, ℕ, Contains, ◌^◌, ◌<◌, ◌≤◌, Bool, List, [], ◌∷◌, ◌++◌, length, take, drop, true, false, Option, Some, None, slice_get}
 use Rattle.std.specs.Prelude.{slice_index_or, slice_set, unwrap_or, option_map, IsTrue, ◌||◌, nat_lt}
 use Rattle.slab.specs.Slab.{Slab, get}
 use Rattle.xn_model.specs.declared.status.Status.{Status}
@@ -20,20 +20,10 @@ pub record IsOf (slab : Slab Entry) (block key : ℕ) : Type 0 where
   pub there : get slab key ≡ Some entry
   pub own : entry.block ≡ block
 
--- the key is none of these
-abbrev pub IsApart : ℕ → List ℕ → Type 0
-IsApart k [] = Unit {0}
-IsApart k (q ∷ qs) = (q ≢ k) × IsApart k qs
-
--- the key is one of these
-abbrev pub IsAmong : ℕ → List ℕ → Type 0
-IsAmong k [] = ⊥
-IsAmong k (q ∷ qs) = (q ≡ k) ⊎ IsAmong k qs
-
 -- each key has an entry of this block, and stands once
 abbrev pub AreOf : Slab Entry → ℕ → List ℕ → Type 0
 AreOf slab b [] = Unit {0}
-AreOf slab b (k ∷ ks) = IsOf slab b k × IsApart k ks × AreOf slab b ks
+AreOf slab b (k ∷ ks) = IsOf slab b k × (Contains ks k → ⊥) × AreOf slab b ks
 
 -- a life has a state, and few pending ones
 pub record IsKept (slab : Slab Entry) (block : ℕ) (life : CachedLife) : Type 0 where
@@ -46,7 +36,7 @@ pub record IsKept (slab : Slab Entry) (block : ℕ) (life : CachedLife) : Type 0
 pub record IsUsed (places : List (Option CachedLife)) (block key : ℕ) : Type 0 where
   pub life : CachedLife
   pub there : slice_get places block ≡ Some (Some life)
-  pub among : IsAmong key life.keys
+  pub among : Contains life.keys key
 
 -- so is each that has an entry: none is left without a life
 abbrev pub AreUsed : Slab Entry → List (Option CachedLife) → Type 0

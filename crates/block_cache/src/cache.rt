@@ -1,7 +1,7 @@
 // What each block has been since it was last free.
 
 ghost use Rattle.std.specs.Prelude.{◌≡◌, ℕ, ◌+◌, ◌*◌, ◌^◌, ◌<◌, ◌≤◌, [], ◌∷◌, length, map, Option, Some, None, IsTrue, IfOk, IfSome, OnOk, OnErr, bytes_eq};
-ghost use Rattle.std.specs.Prelude.{is_some, option_map, slice_get, slice_set};
+ghost use Rattle.std.specs.Prelude.{Contains, is_some, option_map, slice_get, slice_set};
 ghost use Rattle.std.specs.List.{list_any, range_with_len};
 ghost use Rattle.std.specs.Option.{option_copied, option_and_then};
 ghost use Rattle.slab.specs.Slab.{get};
@@ -14,7 +14,7 @@ ghost use Rattle.xn_model.specs.Worlds.{all_pending};
 ghost use Rattle.block_cache.specs.Systems.{system_of};
 ghost use Rattle.block_cache.specs.Named.{places_named};
 ghost use Rattle.block_cache.specs.Claims.{claimed_state, claim_of};
-ghost use Rattle.block_cache.specs.Kept.{IsAmong, IsApart, first_keys, keys_of};
+ghost use Rattle.block_cache.specs.Kept.{first_keys, keys_of};
 ghost use Rattle.block_cache.specs.NewBytes.{AreWithinLimits, new_bytes};
 ghost use Rattle.block_cache.specs.Views.{image_at, HasImage, facts_of, pending_at, rest_at};
 
@@ -360,8 +360,8 @@ fn entry_at<'a>(entries: &'a Slab<Entry>, keys: &[usize], place: usize) -> Optio
 #[inline(always)]
 fn forget_first(entries: &mut Slab<Entry>, life: Option<&Life>, count: usize)
     requires { IfSome (option_copied life) (λ life. count ≤ length life.keys) }
-    ensures rest { (k : ℕ) → IsApart k (first_keys count (option_copied life.entry)) → get entries.new k ≡ get entries.old k }
-    ensures gone { (k : ℕ) → IsAmong k (first_keys count (option_copied life.entry)) → get entries.new k ≡ None }
+    ensures rest { (k : ℕ) → (Contains (first_keys count (option_copied life.entry)) k → ⊥) → get entries.new k ≡ get entries.old k }
+    ensures gone { (k : ℕ) → Contains (first_keys count (option_copied life.entry)) k → get entries.new k ≡ None }
 {
     if let Some(life) = life {
         forget(entries, &life.keys()[..count]);
@@ -370,8 +370,8 @@ fn forget_first(entries: &mut Slab<Entry>, life: Option<&Life>, count: usize)
 
 /// Forgets the entries of a life.
 fn forget_all(entries: &mut Slab<Entry>, life: Option<&Life>)
-    ensures rest { (k : ℕ) → IsApart k (keys_of (option_copied life.entry)) → get entries.new k ≡ get entries.old k }
-    ensures gone { (k : ℕ) → IsAmong k (keys_of (option_copied life.entry)) → get entries.new k ≡ None }
+    ensures rest { (k : ℕ) → (Contains (keys_of (option_copied life.entry)) k → ⊥) → get entries.new k ≡ get entries.old k }
+    ensures gone { (k : ℕ) → Contains (keys_of (option_copied life.entry)) k → get entries.new k ≡ None }
 {
     if let Some(life) = life {
         forget(entries, life.keys());
@@ -381,8 +381,8 @@ fn forget_all(entries: &mut Slab<Entry>, life: Option<&Life>)
 /// Forgets the entries under these keys.
 #[inline(always)]
 fn forget(entries: &mut Slab<Entry>, keys: &[usize])
-    ensures rest { (k : ℕ) → IsApart k keys.now → get entries.new k ≡ get entries.old k }
-    ensures gone { (k : ℕ) → IsAmong k keys.now → get entries.new k ≡ None }
+    ensures rest { (k : ℕ) → (Contains keys.now k → ⊥) → get entries.new k ≡ get entries.old k }
+    ensures gone { (k : ℕ) → Contains keys.now k → get entries.new k ≡ None }
 {
     for key in keys {
         let _entry = entries.try_remove(*key);

@@ -1,31 +1,20 @@
 -- Claims, read off the statuses.
-use Rattle.std.proofs.Common.{◌≡◌, ℕ, ◌+◌, Bool, true, List, ◌++◌, length, Option, Some, None, refl, sym, ◌∙◌, ap, subst, arith, length-append}
+use Rattle.std.proofs.Common.{◌≡◌, ℕ, ◌+◌, true, List, ◌++◌, length, Option, Some, refl, sym, ◌∙◌, ap, subst, arith, length-append}
 use Rattle.std.specs.Prelude.{◌&&◌, ◌==◌, Contains}
 use Rattle.std.specs.List.{list_all}
 use Rattle.std.proofs.lemmas.Bool.{and_parts, and_from, eq-eqb, eqb-true, false≢true}
-use Rattle.std.proofs.lemmas.Option.{same_Some}
 use Rattle.std.proofs.lemmas.List.Folds.{list_all-append}
 use Rattle.xn_model.specs.declared.status.Status.{Status}
 use Rattle.xn_model.specs.declared.status.Status.TheVariants.{Owned}
 use Rattle.xn_model.specs.Types.{Types, inside, without, claims, named_once, within_size}
 use Rattle.xn_model.specs.Lists.{has_pair, distinct, blocks_of}
-use Rattle.xn_model.specs.Lives.{BlockState, Life, Lives, StoreState, life_at, current, bytes_of, alive_and, is_owned_by, is_fresh, is_for}
+use Rattle.xn_model.specs.Lives.{BlockState, Life, StoreState, life_at, current, bytes_of, is_owned_by, is_fresh, is_for}
 use Rattle.xn_model.specs.Calls.{may_add, may_drop}
 use Rattle.xn_model.specs.Rules.{IsConsistent}
-use Rattle.xn_model.proofs.ForCallers.{last_of, all_at, blocks_of_has, blocks_of_at}
+use Rattle.xn_model.proofs.ForCallers.{alive_from, owned_from, of_life, last_of, all_at, blocks_of_has, blocks_of_at}
 use Rattle.claims.specs.Owners.{are_allowed, is_claimed}
-use Rattle.claims.proofs.OwnedPairs.{pair_owned, owned_pair, allowed_is, same_tests, owned_by_is}
+use Rattle.claims.proofs.OwnedPairs.{pair_owned, owned_pair, allowed_is, same_tests}
 use Rattle.claims.proofs.ListCounts.{distinct-append, distinct-without, is_left, length-without, blocks_of-append, pairs_within, all_inside}
-
--- a life that passes a test
-pub record Passes (lives : Lives) (c : ℕ) (test : Life → Bool) : Type 0 where
-  pub life : Life
-  pub alive : life_at lives c ≡ Some life
-  pub passed : test life ≡ true
-
-pub passes : (lives : Lives) (c : ℕ) (test : Life → Bool) (o : Option Life) → life_at lives c ≡ o → alive_and test o ≡ true → Passes lives c test
-passes lives c test None there e = absurd (false≢true e)
-passes lives c test (Some l) there e = record { life = l; alive = there; passed = e }
 
 not_fresh : (b : ℕ) (s : Status) → s ≡ Owned b → is_fresh s ≡ true → ⊥
 not_fresh b s owned fresh = false≢true (sym (ap is_fresh owned) ∙ fresh)
@@ -57,18 +46,17 @@ module _ (T : Types) (state : StoreState) (b fs : ℕ) (l : Life) (new : List �
 
   drops_there : (n : ℕ) → Contains drops n → Contains (blocks_of old) n
   drops_there n i =
-      let m = passes state.lives n (λ x. is_owned_by b x.status) (life_at state.lives n) refl (all_at (may_drop state b) drops n may_drops i) in
-      blocks_of_has old (n, m.life.ty)
-      (owned_pair T state b l ok alive n m.life.ty (record { life = m.life; alive = m.alive; ty = refl; status = owned_by_is b m.life.status m.passed }))
+      let m = alive_from (λ x. is_owned_by b x.status) (life_at state.lives n) (all_at (may_drop state b) drops n may_drops i) in
+      blocks_of_has old (n, m.0.ty)
+      (owned_pair T state b l ok alive n m.0.ty (record { life = m.0; alive = m.1; holds = (refl, owned_from b m.0.status m.2) }))
 
   adds_apart : (n : ℕ) → Contains (blocks_of (without old drops)) n → Contains (blocks_of adds) n → ⊥
   adds_apart n i j =
       let left = is_left old drops n i in
       let owned = pair_owned T state b l ok alive n left.ty left.there in
       let r = blocks_of_at adds n j in
-      let m = passes state.lives n (λ x. is_fresh x.status && ((x.ty == r.0) && is_for fs x.fs)) (life_at state.lives n) refl (all_at (may_add state fs) adds (n, r.0) may_adds r.1) in
-      let same = same_Some m.life owned.life (sym m.alive ∙ owned.alive) in
-      not_fresh b m.life.status (ap (λ (x : Life). x.status) same ∙ owned.status) (and_parts (is_fresh m.life.status) ((m.life.ty == r.0) && is_for fs m.life.fs) m.passed).0
+      let m = alive_from (λ x. is_fresh x.status && ((x.ty == r.0) && is_for fs x.fs)) (life_at state.lives n) (all_at (may_add state fs) adds (n, r.0) may_adds r.1) in
+      not_fresh b m.0.status (of_life owned m.0 m.1).1 (and_parts (is_fresh m.0.status) ((m.0.ty == r.0) && is_for fs m.0.fs) m.2).0
 
   wanted_once : distinct (blocks_of wanted) ≡ true
   wanted_once =

@@ -7,11 +7,11 @@ use Rattle.xn_model.specs.Types.{Types}
 use Rattle.xn_model.specs.Lists.{distinct, blocks_of}
 use Rattle.xn_model.specs.Lives.{Life, Lives, StoreState, life_at, current, alive_and, is_owned_by}
 use Rattle.xn_model.specs.Rules.{IsConsistent}
-use Rattle.xn_model.proofs.ForCallers.{Contains-none, Contains-head, Contains-tail, Contains-cons, blocks_of_has, blocks_of_at}
+use Rattle.xn_model.proofs.ForCallers.{owned_from, alive_from, Contains-none, Contains-head, Contains-tail, Contains-cons, blocks_of_has, blocks_of_at}
 use Rattle.claims.specs.Owners.{owned_count}
-use Rattle.claims.proofs.OwnedPairs.{pair_owned, owned_pair, owned_by_is}
+use Rattle.claims.proofs.OwnedPairs.{pair_owned, owned_pair}
 use Rattle.claims.proofs.ListCounts.{numbers_within, distinct-cons, length-blocks_of}
-use Rattle.claims.proofs.ClaimsByStatus.{passes, newest_once}
+use Rattle.claims.proofs.ClaimsByStatus.{newest_once}
 
 module _ (test : Option Life → Bool) where
   -- the places that pass, where the first place has this number
@@ -84,12 +84,12 @@ owned_counted T state b l ok alive =
     let pair = pair_owned T state b l ok alive c r.0 r.1 in
     let first : 0 + c ≡ c = omega arith in
     subst (λ n. Contains places n) first
-    (place_from test 0 c state.lives refl (ap test pair.alive ∙ (ap (is_owned_by b) pair.status ∙ eq-eqb b b refl)))) in
+    (place_from test 0 c state.lives refl (ap test pair.alive ∙ (ap (is_owned_by b) pair.holds.1 ∙ eq-eqb b b refl)))) in
     let high = numbers_within places (blocks_of owned) (distinct-places_from test 0 state.lives)
     (λ c i.
     let p = place_at test 0 c state.lives i in
     let same : c ≡ p.at = omega (arith, p.is) in
-    let m = passes state.lives c (λ x. is_owned_by b x.status) (life_at state.lives c) refl (ap (λ k. test (life_at state.lives k)) same ∙ p.passed) in
-    blocks_of_has owned (c, m.life.ty)
-    (owned_pair T state b l ok alive c m.life.ty (record { life = m.life; alive = m.alive; ty = refl; status = owned_by_is b m.life.status m.passed }))) in
+    let m = alive_from (λ x. is_owned_by b x.status) (life_at state.lives c) (ap (λ k. test (life_at state.lives k)) same ∙ p.passed) in
+    blocks_of_has owned (c, m.0.ty)
+    (owned_pair T state b l ok alive c m.0.ty (record { life = m.0; alive = m.1; holds = (refl, owned_from b m.0.status m.2) }))) in
     omega (arith, low, high, length-blocks_of owned, length-places_from test 0 state.lives)

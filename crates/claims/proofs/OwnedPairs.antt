@@ -4,15 +4,12 @@ use Rattle.std.specs.Prelude.{not, ◌&&◌, ◌||◌, ◌==◌, ◌↔◌, Cont
 use Rattle.std.specs.List.{list_all}
 use Rattle.std.proofs.lemmas.Bool.{and_parts, and_from, eq-eqb, eqb-true, false≢true}
 use Rattle.std.proofs.lemmas.List.Folds.{list_any-append}
-use Rattle.std.proofs.lemmas.Option.{same_Some}
-use Rattle.xn_model.specs.declared.status.Status.{Status}
-use Rattle.xn_model.specs.declared.status.Status.TheVariants.{Fresh, Owned, Dropped}
 use Rattle.xn_model.specs.Types.{Types, inside, without}
 use Rattle.xn_model.specs.Lists.{has_number, has_pair}
 use Rattle.xn_model.specs.Lives.{BlockState, Life, Lives, StoreState, life_at, newest, current, bytes_of, alive_and, is_owned_by}
 use Rattle.xn_model.specs.Calls.{is_empty, owns_nothing}
 use Rattle.xn_model.specs.Rules.{IsConsistent, NamedIn}
-use Rattle.xn_model.proofs.ForCallers.{last_of, Contains-head, Contains-none, has_pair_at, has_pair_from, filter_at, filter_from}
+use Rattle.xn_model.proofs.ForCallers.{owned_from, of_life, last_of, Contains-head, Contains-none, has_pair_at, has_pair_from, filter_at, filter_from}
 use Rattle.claims.specs.Owners.{IsOwnedPair, OwnsNone, is_owned_pair, are_allowed}
 
 -- a newest state and its bytes
@@ -33,17 +30,13 @@ module _ (T : Types) (state : StoreState) (b : ℕ) (l : Life) (ok : IsConsisten
       let among = last_of l.durable l.pending link.last link.is_last in
       let here = let P : Option BlockState → Type 0 = λ o. Contains (T.owned l.ty (bytes_of o)) (c, u) in subst P link.is_last has in
       let belongs = (ok.lives_sound.each b l alive).named link.last c u among here in
-      let same = same_Some belongs.life owned.life (sym belongs.alive ∙ owned.alive) in
-      record { life = owned.life; alive = owned.alive; ty = sym (ap (λ (m : Life). m.ty) same) ∙ belongs.ty; status = owned.status }
+      record { life = owned.life; alive = owned.alive; holds = ((of_life belongs owned.life owned.alive).0, owned.holds) }
 
   pub owned_pair : (c u : ℕ) → IsOwnedPair state.lives b c u → Contains (T.owned l.ty (current l)) (c, u)
   owned_pair c u owned =
-      let namer = ok.statuses.owned c owned.life b owned.alive owned.status in
-      let same = same_Some namer.life l (sym namer.alive ∙ alive) in
-      let P : Life → Type 0 = λ m. Contains (T.owned m.ty (current m)) (c, owned.life.ty) in
-      let named = subst P same (newest_named T namer.life.ty (newest namer.life) (c, owned.life.ty) namer.names) in
+      let named = newest_named T l.ty (newest l) (c, owned.life.ty) (of_life (ok.statuses.owned c owned.life b owned.alive owned.holds.1) l alive) in
       let Q : ℕ → Type 0 = λ t. Contains (T.owned l.ty (current l)) (c, t) in
-      subst Q owned.ty named
+      subst Q owned.holds.0 named
 
   pub newest_pair : (c u : ℕ) → Contains (T.owned l.ty (current l)) (c, u) ↔ IsOwnedPair state.lives b c u
   newest_pair c u = (pair_owned c u, owned_pair c u)
@@ -70,27 +63,22 @@ module _ (T : Types) (state : StoreState) (b : ℕ) (l : Life) (ok : IsConsisten
 
   pub empty_block : IsTrue (is_empty T state b) ↔ OwnsNone state.lives b
   empty_block = (
-    λ none c m there owned. nothing_at T l.ty (current l) (c, m.ty) (sym empty_is ∙ none) (owned_pair T state b l ok alive c m.ty (record { life = m; alive = there; ty = refl; status = owned })),
-    λ none. empty_is ∙ nothing_from T l.ty (current l) (λ p has. let owned = pair_owned T state b l ok alive p.0 p.1 has in none p.0 owned.life owned.alive owned.status),
+    λ none c m there owned. nothing_at T l.ty (current l) (c, m.ty) (sym empty_is ∙ none) (owned_pair T state b l ok alive c m.ty (record { life = m; alive = there; holds = (refl, owned) })),
+    λ none. empty_is ∙ nothing_from T l.ty (current l) (λ p has. let owned = pair_owned T state b l ok alive p.0 p.1 has in none p.0 owned.life owned.alive owned.holds.1),
   )
 
 -- Allowed pairs
-
-pub owned_by_is : (b : ℕ) (s : Status) → is_owned_by b s ≡ true → s ≡ Owned b
-owned_by_is b Fresh e = absurd (false≢true e)
-owned_by_is b (Owned a) e = ap (λ x. Owned x) (eqb-true a b e)
-owned_by_is b (Dropped a) e = absurd (false≢true e)
 
 tested_pair : (lives : Lives) (b : ℕ) (p : ℕ × ℕ) (o : Option Life) → life_at lives p.0 ≡ o → alive_and (λ l. is_owned_by b l.status && (l.ty == p.1)) o ≡ true → IsOwnedPair lives b p.0 p.1
 tested_pair lives b p None there e = absurd (false≢true e)
 tested_pair lives b p (Some l) there e =
     let both = and_parts (is_owned_by b l.status) (l.ty == p.1) e in
-    record { life = l; alive = there; ty = eqb-true l.ty p.1 both.1; status = owned_by_is b l.status both.0 }
+    record { life = l; alive = there; holds = (eqb-true l.ty p.1 both.1, owned_from b l.status both.0) }
 
 pair_tested : (lives : Lives) (b : ℕ) (p : ℕ × ℕ) → IsOwnedPair lives b p.0 p.1 → is_owned_pair lives b p ≡ true
 pair_tested lives b p owned =
     ap (alive_and (λ l. is_owned_by b l.status && (l.ty == p.1))) owned.alive
-    ∙ and_from _ _ (ap (is_owned_by b) owned.status ∙ eq-eqb b b refl) (eq-eqb owned.life.ty p.1 owned.ty)
+    ∙ and_from _ _ (ap (is_owned_by b) owned.holds.1 ∙ eq-eqb b b refl) (eq-eqb owned.life.ty p.1 owned.holds.0)
 
 -- two tests that hold of the same
 pub same_tests : (x y : Bool) → (x ≡ true → y ≡ true) → (y ≡ true → x ≡ true) → x ≡ y

@@ -8,13 +8,11 @@ use Rattle.std.proofs.lemmas.Option.{unwrap_or-slice_get, slice_get_within}
 use Rattle.std.proofs.lemmas.List.{length-set}
 use Rattle.std.proofs.lemmas.List.Sums.{sum-map, sum_by-set}
 use Rattle.xn_model.specs.declared.status.Status.{Status}
-use Rattle.xn_model.specs.declared.status.Status.TheVariants.{Fresh, Owned, Dropped}
+use Rattle.xn_model.specs.declared.status.Status.TheVariants.{Owned, Dropped}
 use Rattle.xn_model.specs.Lists.{blocks_of, distinct, has_number}
 use Rattle.xn_model.specs.Lives.{BlockState, Life, Lives, life_at, alive_and, change_at, with_state, with_status, is_fresh, is_owned_by, owned_after, dropped_after, accepted_at, freed}
-use Rattle.xn_model.proofs.ForCallers.{Contains-head, Contains-tail, has_number_from, change_same, place_from, set_other}
+use Rattle.xn_model.proofs.ForCallers.{alive_from, fresh_from, owned_from, Contains-head, Contains-tail, has_number_from, change_same, place_from, set_other}
 use Rattle.claims.specs.Owners.{owned_count}
-use Rattle.claims.proofs.ClaimsByStatus.{passes}
-use Rattle.claims.proofs.OwnedPairs.{owned_by_is}
 use Rattle.claims.specs.Owned.{MayClaim}
 
 -- a block that block b owns
@@ -106,10 +104,10 @@ dropped_count : (e b : ℕ) (drops : List ℕ) (lives : Lives) → ((c : ℕ) �
     owned_count (dropped_after b lives drops) e + cond (b == e) (length drops) 0 ≡ owned_count lives e
 dropped_count e b [] lives owned once = let none = part_zero (b == e) in omega (arith, none)
 dropped_count e b (c ∷ cs) lives owned once =
-    let p = passes lives c (λ l. is_owned_by b l.status) (life_at lives c) refl (owned c (Contains-head c cs)) in
+    let p = alive_from (λ l. is_owned_by b l.status) (life_at lives c) (owned c (Contains-head c cs)) in
     let rest = dropped_count e b cs (change_at lives c (with_status (Dropped b))) (others (is_owned b) (Dropped b) lives c cs once owned) (rest_once c cs once) in
-    let here = count_status e lives c (Dropped b) p.life p.alive in
-    let was = ap {B = ℕ} (λ (s : Status). cond (is_owned_by e s) 1 0) (owned_by_is b p.life.status p.passed) in
+    let here = count_status e lives c (Dropped b) p.0 p.1 in
+    let was = ap {B = ℕ} (λ (s : Status). cond (is_owned_by e s) 1 0) (owned_from b p.0.status p.2) in
     let more = part_suc (b == e) (length cs) in
     omega (arith, rest, here, was, more)
 
@@ -118,26 +116,21 @@ fresh_after : (b : ℕ) (drops : List ℕ) (lives : Lives) (c : ℕ) → ((d : �
     is_new (life_at lives c) ≡ true → is_new (life_at (dropped_after b lives drops) c) ≡ true
 fresh_after b [] lives c owned once new = new
 fresh_after b (d ∷ ds) lives c owned once new =
-    let p = passes lives d (λ l. is_owned_by b l.status) (life_at lives d) refl (owned d (Contains-head d ds)) in
-    let other : c ≡ d → ⊥ = λ same. false≢true (sym (ap is_fresh (owned_by_is b p.life.status p.passed)) ∙ (sym (ap is_new (ap (life_at lives) same ∙ p.alive)) ∙ new)) in
+    let p = alive_from (λ l. is_owned_by b l.status) (life_at lives d) (owned d (Contains-head d ds)) in
+    let other : c ≡ d → ⊥ = λ same. false≢true (sym (ap is_fresh (owned_from b p.0.status p.2)) ∙ (sym (ap is_new (ap (life_at lives) same ∙ p.1)) ∙ new)) in
     fresh_after b ds (change_at lives d (with_status (Dropped b))) c (others (is_owned b) (Dropped b) lives d ds once owned) (rest_once d ds once)
     (ap is_new (set_other lives d c (option_map (with_status (Dropped b)) (life_at lives d)) other) ∙ new)
 
 -- Blocks are added
 
-fresh_is : (s : Status) → is_fresh s ≡ true → s ≡ Fresh
-fresh_is Fresh e = refl
-fresh_is (Owned a) e = absurd (false≢true e)
-fresh_is (Dropped a) e = absurd (false≢true e)
-
 added_count : (e b : ℕ) (adds : List (ℕ × ℕ)) (lives : Lives) → ((c : ℕ) → Contains (blocks_of adds) c → is_new (life_at lives c) ≡ true) → distinct (blocks_of adds) ≡ true →
     owned_count (owned_after b lives adds) e ≡ owned_count lives e + cond (b == e) (length adds) 0
 added_count e b [] lives fresh once = let none = part_zero (b == e) in omega (arith, none)
 added_count e b (a ∷ adds) lives fresh once =
-    let p = passes lives a.0 (λ l. is_fresh l.status) (life_at lives a.0) refl (fresh a.0 (Contains-head a.0 (blocks_of adds))) in
+    let p = alive_from (λ l. is_fresh l.status) (life_at lives a.0) (fresh a.0 (Contains-head a.0 (blocks_of adds))) in
     let rest = added_count e b adds (change_at lives a.0 (with_status (Owned b))) (others is_new (Owned b) lives a.0 (blocks_of adds) once fresh) (rest_once a.0 (blocks_of adds) once) in
-    let here = count_status e lives a.0 (Owned b) p.life p.alive in
-    let was = ap {B = ℕ} (λ (s : Status). cond (is_owned_by e s) 1 0) (fresh_is p.life.status p.passed) in
+    let here = count_status e lives a.0 (Owned b) p.0 p.1 in
+    let was = ap {B = ℕ} (λ (s : Status). cond (is_owned_by e s) 1 0) (fresh_from p.0.status p.2) in
     let more = part_suc (b == e) (length adds) in
     omega (arith, rest, here, was, more)
 

@@ -1,9 +1,10 @@
 -- Lists of waiters, where one comes to the front or leaves it.
 use Rattle.std.proofs.Common.{◌≡◌, ℕ, zero, suc, ◌<◌, List, [], ◌∷◌, length, replicate, Option, Some, None, refl, sym, ◌∙◌, ap, arith, inl, inr, subst}
-use Rattle.std.specs.Prelude.{slice_set}
+use Rattle.std.specs.Prelude.{Contains, slice_set}
 use Rattle.std.proofs.lemmas.List.{length-set}
 use Rattle.std.proofs.lemmas.Bool.{cases_eq}
-use Rattle.dependencies.specs.WaitLists.{at, AreLists, IsListed, IsChain, IsListOf}
+use Rattle.xn_model.proofs.ForCallers.{Contains-cons, Contains-head, Contains-none, Contains-tail}
+use Rattle.dependencies.specs.WaitLists.{at, AreLists, IsChain, IsListOf}
 
 abbrev pub Row : Type 0
 Row = List (Option ℕ)
@@ -46,11 +47,11 @@ at_blank (suc n) (suc k) = at_blank n k
 -- Chains
 
 -- a link of a block that isn't in a chain changes
-chain_kept : (next : Row) (start : Option ℕ) (xs : List ℕ) (b : ℕ) (o : Option ℕ) → (IsListed b xs → ⊥) → IsChain next start xs → IsChain (slice_set next b o) start xs
+chain_kept : (next : Row) (start : Option ℕ) (xs : List ℕ) (b : ℕ) (o : Option ℕ) → (Contains xs b → ⊥) → IsChain next start xs → IsChain (slice_set next b o) start xs
 chain_kept next start [] b o out chain = chain
 chain_kept next start (x ∷ xs) b o out chain =
-    let apart : x ≡ b → ⊥ = λ e. out (inl e) in
-    let rest = chain_kept next (at next x) xs b o (λ i. out (inr i)) chain.2 in
+    let apart : x ≡ b → ⊥ = λ e. out (subst (Contains (x ∷ xs)) e (Contains-head x xs)) in
+    let rest = chain_kept next (at next x) xs b o (λ i. out (Contains-tail x xs b i)) chain.2 in
     (chain.0, chain.1, subst (λ (s : Option ℕ). IsChain (slice_set next b o) s xs) (sym (at_other next b x o apart)) rest)
 
 -- No block waits
@@ -62,8 +63,8 @@ none_waits n waits first next w f e = record {
   lists = λ other. record {
     blocks = [];
     chain = ap (λ (r : Row). at r other) f ∙ at_blank n other;
-    each = λ b i. absurd i;
-    all = λ b s. none_some (at waits b) other (ap (λ (r : Row). at r b) w ∙ at_blank n b) s;
+    each = λ b i. absurd (Contains-none b i);
+    all = λ b s. absurd (none_some (at waits b) other (ap (λ (r : Row). at r b) w ∙ at_blank n b) s);
   };
 }
 
@@ -72,29 +73,29 @@ none_waits n waits first next w f e = record {
 pushed_here : (waits next : Row) (other b : ℕ) (start : Option ℕ) → b < length waits → b < length next → at waits b ≡ None → IsListOf waits next other start →
     IsListOf (slice_set waits b (Some other)) (slice_set next b start) other (Some b)
 pushed_here waits next other b start in_waits in_next free list =
-    let out : IsListed b list.blocks → ⊥ = λ i. none_some (at waits b) other free (list.each b i) in
+    let out : Contains list.blocks b → ⊥ = λ i. none_some (at waits b) other free (list.each b i) in
     let chain = chain_kept next start list.blocks b start out list.chain in
     record {
       blocks = b ∷ list.blocks;
       chain = (refl, out, subst (λ (s : Option ℕ). IsChain (slice_set next b start) s list.blocks) (sym (at_same next b start in_next)) chain);
-      each = λ x i. elim i [
+      each = λ x i. elim (Contains-cons b list.blocks x i) [
         | inl e ↦ subst (λ (y : ℕ). at (slice_set waits b (Some other)) y ≡ Some other) e (at_same waits b (Some other) in_waits)
-        | inr k ↦ at_other waits b x (Some other) (λ e. out (subst (λ (y : ℕ). IsListed y list.blocks) e k)) ∙ list.each x k
+        | inr k ↦ at_other waits b x (Some other) (λ e. out (subst (λ (y : ℕ). Contains list.blocks y) e k)) ∙ list.each x k
       ];
       all = λ x e. elim (cases_eq x b) [
-        | inl same ↦ inl (sym same)
-        | inr apart ↦ inr (list.all x (sym (at_other waits b x (Some other) apart) ∙ e))
+        | inl same ↦ subst (Contains (b ∷ list.blocks)) (sym same) (Contains-head b list.blocks)
+        | inr apart ↦ Contains-tail b list.blocks x (list.all x (sym (at_other waits b x (Some other) apart) ∙ e))
       ];
     }
 
 pushed_there : (waits next : Row) (other b d : ℕ) (o start : Option ℕ) → b < length waits → at waits b ≡ None → (d ≡ other → ⊥) → IsListOf waits next d start →
     IsListOf (slice_set waits b (Some other)) (slice_set next b o) d start
 pushed_there waits next other b d o start in_waits free apart list =
-    let out : IsListed b list.blocks → ⊥ = λ i. none_some (at waits b) d free (list.each b i) in
+    let out : Contains list.blocks b → ⊥ = λ i. none_some (at waits b) d free (list.each b i) in
     record {
       blocks = list.blocks;
       chain = chain_kept next start list.blocks b o out list.chain;
-      each = λ x i. at_other waits b x (Some other) (λ e. out (subst (λ (y : ℕ). IsListed y list.blocks) e i)) ∙ list.each x i;
+      each = λ x i. at_other waits b x (Some other) (λ e. out (subst (λ (y : ℕ). Contains list.blocks y) e i)) ∙ list.each x i;
       all = λ x e. elim (cases_eq x b) [
         | inl same ↦ absurd (apart (same_some (at (slice_set waits b (Some other)) x) d other e (ap (at (slice_set waits b (Some other))) same ∙ at_same waits b (Some other) in_waits)))
         | inr away ↦ list.all x (sym (at_other waits b x (Some other) away) ∙ e)
@@ -120,33 +121,33 @@ pushed waits first next other b there here free lists = record {
 pub front_waits : (waits first next : Row) (other b : ℕ) → AreLists waits first next → at first other ≡ Some b → at waits b ≡ Some other
 front_waits waits first next other b lists front = by (lists.lists other).blocks (lists.lists other).chain (lists.lists other).each
   where
-    by : (xs : List ℕ) → IsChain next (at first other) xs → ((x : ℕ) → IsListed x xs → at waits x ≡ Some other) → at waits b ≡ Some other
+    by : (xs : List ℕ) → IsChain next (at first other) xs → ((x : ℕ) → Contains xs x → at waits x ≡ Some other) → at waits b ≡ Some other
     by [] chain each = absurd (none_some (at first other) b chain front)
-    by (x ∷ xs) chain each = let same = same_some (at first other) x b chain.0 front in each b (inl same)
+    by (x ∷ xs) chain each = let same = same_some (at first other) x b chain.0 front in each b (subst (Contains (x ∷ xs)) same (Contains-head x xs))
 
 pub none_left : (waits first next : Row) (other : ℕ) → AreLists waits first next → at first other ≡ None → (b : ℕ) → at waits b ≡ Some other → ⊥
 none_left waits first next other lists front b waited = by (lists.lists other).blocks (lists.lists other).chain ((lists.lists other).all b waited)
   where
-    by : (xs : List ℕ) → IsChain next (at first other) xs → IsListed b xs → ⊥
-    by [] chain i = i
+    by : (xs : List ℕ) → IsChain next (at first other) xs → Contains xs b → ⊥
+    by [] chain i = Contains-none b i
     by (x ∷ xs) chain i = none_some (at first other) x front chain.0
 
 popped_here : (waits next : Row) (other b : ℕ) (start : Option ℕ) → start ≡ Some b → IsListOf waits next other start → IsListOf (slice_set waits b None) next other (at next b)
 popped_here waits next other b start front list = by list.blocks list.chain list.each list.all
   where
-    by : (xs : List ℕ) → IsChain next start xs → ((x : ℕ) → IsListed x xs → at waits x ≡ Some other) → ((x : ℕ) → at waits x ≡ Some other → IsListed x xs) →
+    by : (xs : List ℕ) → IsChain next start xs → ((x : ℕ) → Contains xs x → at waits x ≡ Some other) → ((x : ℕ) → at waits x ≡ Some other → Contains xs x) →
         IsListOf (slice_set waits b None) next other (at next b)
     by [] chain each all = absurd (none_some start b chain front)
     by (y ∷ ys) chain each all =
         let same : y ≡ b = same_some start y b chain.0 front in
-        let out : IsListed b ys → ⊥ = subst (λ (z : ℕ). IsListed z ys → ⊥) same chain.1 in
+        let out : Contains ys b → ⊥ = subst (λ (z : ℕ). Contains ys z → ⊥) same chain.1 in
         record {
           blocks = ys;
           chain = subst (λ (z : ℕ). IsChain next (at next z) ys) same chain.2;
-          each = λ x i. at_other waits b x None (λ e. out (subst (λ (z : ℕ). IsListed z ys) e i)) ∙ each x (inr i);
+          each = λ x i. at_other waits b x None (λ e. out (subst (λ (z : ℕ). Contains ys z) e i)) ∙ each x (Contains-tail y ys x i);
           all = λ x e. elim (cases_eq x b) [
             | inl here ↦ absurd (none_some (at (slice_set waits b None) x) other (ap (at (slice_set waits b None)) here ∙ at_none waits b) e)
-            | inr away ↦ elim (all x (sym (at_other waits b x None away) ∙ e)) [
+            | inr away ↦ elim (Contains-cons y ys x (all x (sym (at_other waits b x None away) ∙ e))) [
               | inl first ↦ absurd (away (sym first ∙ same))
               | inr rest ↦ rest
             ]

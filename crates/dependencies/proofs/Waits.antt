@@ -3,7 +3,6 @@ use Rattle.std.proofs.Common.{◌≡◌, ◌≢◌, ℕ, zero, suc, ◌+◌, ◌
 use Rattle.std.specs.Prelude.{not, ◌&&◌, ◌||◌, ◌==◌, Contains, count_by, option_to_list, if◌then◌else◌}
 use Rattle.std.specs.List.{list_all, list_any}
 use Rattle.std.proofs.lemmas.Bool.{ne_eqb, eq-eqb, cases_eq, or_left, or_right, and_from}
-use Rattle.std.proofs.lemmas.Option.{same_Some}
 use Rattle.std.proofs.lemmas.List.Elements.{Contains-append_right, Contains-append_cases}
 use Rattle.std.proofs.lemmas.List.Folds.{list_any-append}
 use Rattle.std.proofs.lemmas.List.Sums.{sum_by-cons}
@@ -12,7 +11,7 @@ use Rattle.xn_model.specs.Lists.{blocks_of, types_of_pairs}
 use Rattle.xn_model.specs.Root.{has_type}
 use Rattle.xn_model.specs.Lives.{BlockState, Life, StoreState, life_at, has_durable, is_all_durable, is_pending, has_entry, is_after_met, is_type_met, root_on_disk, durable_bytes, bytes_of, safe}
 use Rattle.xn_model.specs.Rules.{IsConsistent, Rises}
-use Rattle.xn_model.proofs.ForCallers.{Contains-head, Contains-tail, Contains-cons, Contains-none, any_from}
+use Rattle.xn_model.proofs.ForCallers.{of_life, of_root, Contains-head, Contains-tail, Contains-cons, Contains-none, any_from}
 use Rattle.dependencies.specs.Unmet.{pending_entries_at, waits_after, types_unmet, unmet}
 
 -- a count that is 0
@@ -92,15 +91,13 @@ module _ (T : Types) (state : StoreState) (b : ℕ) (l : Life) (earlier later : 
   -- block 0 has them in an earlier state
   pub root_has : b ≡ 0 → (c u : ℕ) → Contains s.adds (c, u) → is_type_met state.lives l.ty earlier u ≡ true
   root_has zero' c u i =
-      let o = ok.waits.types b l s c u alive here i in
-      let r = ok.lives_sound.root in
-      let mine : o.life ≡ l = same_Some o.life l (sym o.alive ∙ (ap (life_at state.lives) (sym zero') ∙ alive)) in
-      let ty : l.ty ≡ 0 = ap (λ (x : Life). x.ty) (same_Some l r.life (sym alive ∙ (ap (life_at state.lives) zero' ∙ r.alive))) ∙ r.ty in
-      elim o.older [
+      let root : life_at state.lives 0 ≡ Some l = ap (life_at state.lives) (sym zero') ∙ alive in
+      let ty : l.ty ≡ 0 = (of_root ok.lives_sound.root l root).0 in
+      elim (of_life (ok.waits.types b l s c u alive here i) l root) [
         | inl d ↦ or_left (has_type (root_on_disk state.lives) u) ((l.ty == 0) && list_any (λ x. has_type x.bytes u) earlier)
-            (ap (λ m. has_type m u) (ap durable_bytes o.alive ∙ ap bytes_of d.1) ∙ d.2)
+            (ap (λ m. has_type m u) (ap durable_bytes root ∙ ap bytes_of d.1) ∙ d.2)
         | inr t ↦
-            let in' : Contains (earlier ++ s ∷ later) t.0 = subst (λ xs. Contains xs t.0) split (subst (λ (x : Life). Contains x.pending t.0) mine t.1) in
+            let in' : Contains (earlier ++ s ∷ later) t.0 = subst (λ xs. Contains xs t.0) split t.1 in
             elim (Contains-append_cases earlier (s ∷ later) t.0 in') [
               | inl before ↦ or_right (has_type (root_on_disk state.lives) u) ((l.ty == 0) && list_any (λ x. has_type x.bytes u) earlier)
                   (and_from (l.ty == 0) (list_any (λ x. has_type x.bytes u) earlier) (eq-eqb l.ty 0 ty) (any_from (λ x. has_type x.bytes u) earlier t.0 before t.3))

@@ -1,5 +1,5 @@
 // Runs in which something fails: requests for memory, and each read, write and sync of a lane. With an argument only those that ask for memory
-// are made, for `tools/refused_memory`.
+// are made, for `tools/outside memory`.
 // May touch: memory, threads, streams.
 #![tactic(auto)]
 

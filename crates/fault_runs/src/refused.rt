@@ -1,7 +1,7 @@
 // Makes a volume and a file on fresh disks, each with a crash after another count of writes, and looks at what the crash leaves; then some
 // values. What finds no memory is made again. So this prints the same where any one request for memory is refused, but for how many values
 // there was no memory at once. Last come calls that take no memory, and a line before them: they do what they should also where every request
-// from there on is refused. `tools/refused_memory` tries both.
+// from there on is refused. `tools/outside memory` tries both.
 
 use crate::refused::images::{Left, left_by};
 use crate::refused::spare::print_spare;

@@ -23,7 +23,7 @@ module _ (T : Types) (state : StoreState) (after : Option ℕ) (can : CanEdit T 
   direct_refused index block low set last none may =
       attached_short T state after can fs few n found.block found.place file.is.stands bytes whole block 2 may
       (subst (λ own. Replaces (inode_pairs own 0) (inode_pairs bytes 0) [] ((block, 2) ∷ [])) file.is.bytes
-      (pairs_set found.inode bytes last index block low set none (addable T state can.consistent fs block 2 may).not_root))
+      (pairs_set found.inode bytes last index block low set none (addable T state can.consistent fs block 2 may).holds.2))
 
   -- gets a block of pointers
   pub pointers_refused : (block : ℕ) → (fields_of bytes).direct ≡ (fields_of found.inode).direct → word_at bytes 56 ≡ block → word_at found.inode 56 ≡ 0 →
@@ -32,7 +32,7 @@ module _ (T : Types) (state : StoreState) (after : Option ℕ) (can : CanEdit T 
       attached_short T state after can fs few n found.block found.place file.is.stands bytes whole block 5 may
       (subst (λ own. Replaces (inode_pairs own 0) (inode_pairs bytes 0) [] ((block, 5) ∷ [])) file.is.bytes
       (indirect_set found.inode bytes block (λ i lt. direct_get bytes i lt ∙ (ap (λ ws. get_or ws i 0) direct ∙ sym (direct_get found.inode i lt))) none last
-      (addable T state can.consistent fs block 5 may).not_root))
+      (addable T state can.consistent fs block 5 may).holds.2))
 
   -- gets another size
   pub size_refused : (fields_of bytes).direct ≡ (fields_of found.inode).direct → word_at bytes 56 ≡ word_at found.inode 56 → ShortEdit T state fs found.block (edit_at (64 * found.place) bytes [] [] after)

@@ -4,9 +4,10 @@ use Rattle.ffs_lib.proofs.Common.{FfsFault, IsConsistent, IsInodes, IsLibrary, I
 use Rattle.ffs_lib.proofs.Common.{direct_word, eqb-false, file_block, inode_at, inode_block_in, inode_in, inode_mode, latest, library_layout, pointer_word, root}
 use Rattle.ffs_lib.proofs.Common.{root_in, same_Some, slot, step, unless_unused, unless_zero, word_at}
 use Rattle.xn_model.specs.declared.status.Status.TheVariants.{Owned}
-use Rattle.ffs_model.proofs.ForCallers.{blocks_read, data_once, data_owned, direct_once, indirect_once, indirect_owned, latest_reached, library_reads, one_type, under_inodes, word_part}
+use Rattle.xn_model.proofs.ForCallers.{of_life}
+use Rattle.ffs_model.proofs.ForCallers.{owner_of, blocks_read, data_once, data_owned, direct_once, indirect_once, indirect_owned, latest_reached, library_reads, one_type, under_inodes, word_part}
 use Rattle.ffs_lib.proofs.Edited.{same_root}
-use Rattle.ffs_lookup.proofs.ForCallers.{block_again, direct_has, good_number, in_inode_block, owner_of, pointer_is, same_ok, used_is}
+use Rattle.ffs_lookup.proofs.ForCallers.{block_again, direct_has, good_number, in_inode_block, pointer_is, same_ok, used_is}
 use Rattle.ffs_lib.proofs.Listed.{fits_newest}
 
 -- Look-ups that pass
@@ -122,7 +123,7 @@ module _ (T : Types) (lib : IsLibrary T) (state : StoreState) (h : IsConsistent 
       let lb = latest_reached T state h fs few b u rb in
       let oa = owner_of T state h fs few a t c x la.life la.alive la.ty ia in
       let ob = owner_of T state h fs few b u c y lb.life lb.alive lb.ty ib in
-      let same : Owned a ≡ Owned b = sym oa.status ∙ (ap (λ (l : Life). l.status) (same_Some oa.life ob.life (sym oa.alive ∙ ob.alive)) ∙ ob.status) in
+      let same : Owned a ≡ Owned b = sym oa.holds ∙ of_life ob oa.life oa.alive in
       cc
 
   -- What an inode owns

@@ -1,7 +1,6 @@
 -- What crates above cite in their proofs. They import no other module of these proofs.
 pub use Rattle.ffs_lookup.proofs.Finding.{direct_has, entry_is, found_has, found_mode, free_mode, pointer_is}
 pub use Rattle.ffs_lookup.proofs.Newest.{block_again, directory_again, directory_is, file_is, good_number, in_directory, in_file, in_inode_block, in_root_block, is_numbered, kind_known, kind_told, no_inode_block, no_number, no_root_block, not_both, not_ok, not_zero, root_again, unused_is, used_is, zero_is}
-pub use Rattle.ffs_lookup.proofs.Readable.{owner_of}
 pub use Rattle.ffs_lookup.proofs.Counting.{contained, least_none}
 pub use Rattle.ffs_lookup.proofs.Repairing.{HasSpareLinks, IsUnnamed, given_up, links_set, unnumbered_repair}
 pub use Rattle.ffs_lookup.proofs.Finds.{find_on, found_holds, map_on}

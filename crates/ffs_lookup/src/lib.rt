@@ -1,4 +1,5 @@
-//! What stands in the newest bytes of a library file system over a store: where its inodes, its entries, and the room for more of them are.
+//! What stands in the newest bytes of a library file system over a store: its files as a value, and where its inodes, its entries, and the room for more of
+//! them are.
 //! May touch: nothing.
 #![tactic(auto)]
 

@@ -31,6 +31,6 @@ pub use Rattle.ffs_model.proofs.Mounted.{crash_keeps, mounted_bare, mounted_keep
 pub use Rattle.ffs_model.proofs.Writes.{begin_cuts, settle_cuts}
 -- what is refused for want of something alone
 pub use Rattle.ffs_model.proofs.Pairs.{Replaces, all_of, changes_add, changes_drop, changes_none, claims_from, flat_kept, flat_replaced, pointed_kept, pointed_none, pointed_set, replaces_in, within_parts}
-pub use Rattle.ffs_model.proofs.Shortages.{IsFit, IsHeld, all_empty, edit_short, held, init_short, may_all_drop, never_err, once_held, root_short, same_refusal, unnamed}
+pub use Rattle.ffs_model.proofs.Shortages.{IsFit, IsHeld, all_empty, edit_short, held, init_short, may_all_drop, never_err, once_held, owner_of, root_short, same_refusal, unnamed}
 pub use Rattle.ffs_model.proofs.ShortEdits.{data_begun, data_short, direct_set, free_begun, indirect_set, inode_add_short, inode_bare, inode_freed_short, inode_part, inode_short, inode_words, inodes_begun, pointer_set_short, pointers_begun, pointers_cleared_short, root_begun, root_set_short}
 pub use Rattle.ffs_model.proofs.Numbers.{forget_later, gives_short, init_later, make_root_later, named_linked, named_links, propose_later, proposed_given, rooted_given}

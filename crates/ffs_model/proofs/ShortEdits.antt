@@ -223,7 +223,7 @@ module _ (T : Types) (lib : IsLibrary T) where
         let size : within_size T 3 new ≡ true = ap (λ n. blank (drop n new)) (lib.root_size new) ∙ (ap blank rest ∙ (ap (λ n. blank (drop n m)) (sym (lib.root_size m)) ∙ was)) in
         add_short state h fs few b 3 at long (4 * index) bs (omega arith) fits after given c 4 may
         (replaces_in (pointed (pointer_word m) 16 4) (T.owned 3 m) (pointed (pointer_word new) 16 4) (T.owned 3 new) [] ((c, 4) ∷ []) (lib.root m) (lib.root new)
-        (words_set 16 4 index c low (omega arith) small (addable T state h fs c 4 may).not_root none)) size
+        (words_set 16 4 index c low (omega arith) small (addable T state h fs c 4 may).holds.2 none)) size
 
     -- a block of pointers points to a block of data more
     pub pointer_set_short : Under T (latest state.lives) fs b 5 → (place c : ℕ) → place < 128 → c < 2 ^ 32 → pointer_word (latest state.lives b) place ≡ 0 → may_add state fs (c, 2) ≡ true →
@@ -238,7 +238,7 @@ module _ (T : Types) (lib : IsLibrary T) where
         let new_long : length new ≡ 512 = length_put m (4 * place) bs within ∙ long in
         add_short state h fs few b 5 at long (4 * place) bs (omega arith) fits after given c 2 may
         (replaces_in (pointed (pointer_word m) 128 2) (T.owned 5 m) (pointed (pointer_word new) 128 2) (T.owned 5 new) [] ((c, 2) ∷ []) (lib.indirect m) (lib.indirect new)
-        (words_set 128 2 place c low (omega arith) small (addable T state h fs c 2 may).not_root none)) (whole_size T 5 new (lib.indirect_size new) (omega arith))
+        (words_set 128 2 place c low (omega arith) small (addable T state h fs c 2 may).holds.2 none)) (whole_size T 5 new (lib.indirect_size new) (omega arith))
 
     -- it is cleared
     pub pointers_cleared_short : Under T (latest state.lives) fs b 5 →

@@ -6,7 +6,6 @@ use Rattle.std.specs.Prelude.{Contains, IsTrue, Result, Ok, Err, ⊤, nat_lt, �
 use Rattle.std.specs.List.{list_all}
 use Rattle.std.proofs.lemmas.Bool.{and_parts, and_from, false_from_ne_true, le-ltb, true≢false}
 use Rattle.std.proofs.lemmas.List.Elements.{Contains-append_right}
-use Rattle.std.proofs.lemmas.Option.{same_Some}
 use Rattle.xn_model.specs.declared.refusal.Refusal.{Refusal}
 use Rattle.xn_model.specs.declared.refusal.Refusal.TheVariants.{NoMemory, NotInUse, NotYours, BadPatch, BadAfter, NotFresh, NotOwned, NotEmpty, ClaimWrong, SizeWrong, TooManyPending, NoSpace, BadType, RootTaken, Exhausted}
 use Rattle.xn_model.specs.declared.status.Status.TheVariants.{Fresh, Owned}
@@ -17,7 +16,7 @@ use Rattle.xn_model.specs.Lives.{Life, StoreState, life_at, bytes_of, chain_end,
 use Rattle.xn_model.specs.Results.{first_refusal, unless, result_and_then}
 use Rattle.xn_model.specs.Calls.{Edit, accepts, edit_tests, edited, exhausted, init_at, init_of, is_empty, life_bytes, life_pending, make_root_at, make_root_of, may_add, may_drop, own_life, own_place, owns_nothing, patched, propose_at, propose_of, root_state, slot_now, too_many, was_given, within_limits}
 use Rattle.xn_model.specs.Rules.{IsConsistent, IsOwnedBy, NamedIn}
-use Rattle.xn_model.proofs.ForCallers.{addable, all_at, blocks_of_at, ends_itself, has_number_at, last_of, place_from, roots_from, same_end}
+use Rattle.xn_model.proofs.ForCallers.{of_life, addable, all_at, blocks_of_at, ends_itself, has_number_at, last_of, place_from, roots_from, same_end}
 use Rattle.ffs_model.specs.Cuts.{Under, root, step, latest}
 use Rattle.ffs_model.specs.Shortages.{is_shortage}
 use Rattle.ffs_model.proofs.Volumes.{latest_reached}
@@ -74,8 +73,8 @@ pub record IsHeld (T : Types) (state : StoreState) (fs c u : ℕ) : Type 0 where
   pub fit : fits T u (latest state.lives c) ≡ true
 
 module _ (T : Types) (state : StoreState) (h : IsConsistent T state) (fs : ℕ) (few : fs < 32) where
-  owned_by : (b t c u : ℕ) (l : Life) → life_at state.lives b ≡ Some l → l.ty ≡ t → Contains (T.owned t (latest state.lives b)) (c, u) → IsOwnedBy state.lives b c
-  owned_by b t c u l alive ty i =
+  pub owner_of : (b t c u : ℕ) (l : Life) → life_at state.lives b ≡ Some l → l.ty ≡ t → Contains (T.owned t (latest state.lives b)) (c, u) → IsOwnedBy state.lives b c
+  owner_of b t c u l alive ty i =
       let k = h.linked b l alive in
       let bytes : latest state.lives b ≡ k.last.bytes = ap life_bytes alive ∙ ap bytes_of k.is_last in
       let named : Contains (T.owned l.ty k.last.bytes) (c, u) = subst (λ x. Contains (T.owned x k.last.bytes) (c, u)) (sym ty) (subst (λ m. Contains (T.owned t m) (c, u)) bytes i) in
@@ -86,29 +85,29 @@ module _ (T : Types) (state : StoreState) (h : IsConsistent T state) (fs : ℕ) 
   top_owns m c u e ne = subst (λ ps. Contains ps (c, u)) (sym (h.built_ins.root_owns m)) (Contains-append_right (templates_of m) (roots_of m) (c, u) (roots_from m fs c u few e ne))
 
   has_owner : (c u : ℕ) → Under T (latest state.lives) fs c u → (b : ℕ) × IsOwnedBy state.lives b c
-  has_owner c u (root e ne) = let top = h.lives_sound.root in (0, owned_by 0 0 c u top.life top.alive top.ty (top_owns (latest state.lives 0) c u e ne))
-  has_owner c u (step {b} {t} r n) = let x = latest_reached T state h fs few b t r in (b, owned_by b t c u x.life x.alive x.ty n)
+  has_owner c u (root e ne) = let top = h.lives_sound.root in (0, owner_of 0 0 c u top.life top.alive top.ty (top_owns (latest state.lives 0) c u e ne))
+  has_owner c u (step {b} {t} r n) = let x = latest_reached T state h fs few b t r in (b, owner_of b t c u x.life x.alive x.ty n)
 
   -- the chain of its owners ends at block 0
   end_under : (c u : ℕ) → Under T (latest state.lives) fs c u → chain_end state.lives c ≡ 0
   end_under c u (root e ne) =
       let top = h.lives_sound.root in
-      same_end state.lives h.chains 0 c (owned_by 0 0 c u top.life top.alive top.ty (top_owns (latest state.lives 0) c u e ne))
-      ∙ ends_itself state.lives 0 (record { life = top.life; alive = top.alive; status = top.unowned })
+      same_end state.lives h.chains 0 c (owner_of 0 0 c u top.life top.alive top.ty (top_owns (latest state.lives 0) c u e ne))
+      ∙ ends_itself state.lives 0 (record { life = top.life; alive = top.alive; holds = top.unowned })
   end_under c u (step {b} {t} r n) = let x = latest_reached T state h fs few b t r in
-      same_end state.lives h.chains b c (owned_by b t c u x.life x.alive x.ty n) ∙ end_under b t r
+      same_end state.lives h.chains b c (owner_of b t c u x.life x.alive x.ty n) ∙ end_under b t r
 
   -- so nothing that may be added closes it
   pub no_cycle : (c u : ℕ) → Under T (latest state.lives) fs c u → (adds : List (ℕ × ℕ)) → list_all (may_add state fs) adds ≡ true → has_number (blocks_of adds) (chain_end state.lives c) ≡ false
   no_cycle c u r adds may = false_from_ne_true (has_number (blocks_of adds) (chain_end state.lives c)) (λ t.
       let p = blocks_of_at adds (chain_end state.lives c) (has_number_at (blocks_of adds) (chain_end state.lives c) t) in
-      (addable T state h fs (chain_end state.lives c) p.0 (all_at (may_add state fs) adds (chain_end state.lives c, p.0) may p.1)).not_root (end_under c u r))
+      (addable T state h fs (chain_end state.lives c) p.0 (all_at (may_add state fs) adds (chain_end state.lives c, p.0) may p.1)).holds.2 (end_under c u r))
 
   pub held : (c u : ℕ) → Under T (latest state.lives) fs c u → IsHeld T state fs c u
   held c u r =
       let x = latest_reached T state h fs few c u r in
       let o = has_owner c u r in
-      let status : x.life.status ≡ Owned o.0 = ap (λ (l : Life). l.status) (same_Some x.life o.1.life (sym x.alive ∙ o.1.alive)) ∙ o.1.status in
+      let status = of_life o.1 x.life x.alive in
       let k = h.linked c x.life x.alive in
       let fit = (h.lives_sound.each c x.life x.alive).fit k.last (last_of x.life.durable x.life.pending k.last k.is_last) in
       record {
@@ -131,8 +130,7 @@ module _ (T : Types) (state : StoreState) (h : IsConsistent T state) (fs : ℕ) 
       let p = blocks_of_at (T.owned t (latest state.lives b)) c i in
       let x = held c p.0 (step r p.1) in
       let a = addable T state h fs c u may in
-      let same : a.life ≡ x.life = same_Some a.life x.life (sym a.alive ∙ x.alive) in
-      let status : Owned x.owner ≡ Fresh = sym x.owned ∙ (ap (λ (l : Life). l.status) (sym same) ∙ a.fresh) in
+      let status : Owned x.owner ≡ Fresh = sym x.owned ∙ (of_life a x.life x.alive).1 in
       true≢false (sym (ap is_fresh status))
 
   -- What is owned may be dropped
@@ -141,8 +139,8 @@ module _ (T : Types) (state : StoreState) (h : IsConsistent T state) (fs : ℕ) 
     may_all_drop = all_from (may_drop state b) (blocks_of zs) (λ c i.
         let p = blocks_of_at zs c i in
         let x = held b t r in
-        let o = owned_by b t c p.0 x.life x.alive x.ty (has (c, p.0) p.1) in
-        ap (alive_and (λ l. is_owned_by b l.status)) o.alive ∙ (ap (is_owned_by b) o.status ∙ eq-eqb b b refl))
+        let o = owner_of b t c p.0 x.life x.alive x.ty (has (c, p.0) p.1) in
+        ap (alive_and (λ l. is_owned_by b l.status)) o.alive ∙ (ap (is_owned_by b) o.holds ∙ eq-eqb b b refl))
 
     pub all_empty : ((c u : ℕ) → Contains zs (c, u) → T.owned u (latest state.lives c) ≡ []) → list_all (is_empty T state) (blocks_of zs) ≡ true
     all_empty none = all_from (is_empty T state) (blocks_of zs) (λ c i.

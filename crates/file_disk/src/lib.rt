@@ -7,10 +7,14 @@
 //!   opened, and that the number which a write answers is that of a sync which begins after it;
 //! - in `lane`, that each call goes to its own block's place of the file, and that the bytes which a lane keeps are those of its
 //!   last good write, or those that the file brought since;
-//! - in `open_writes`, that the list of what a crash may leave, which no memory holds, is changed by these alone.
+//! - in `open_writes`, that the list of what a crash may leave, which no memory holds, is changed by these alone;
+//! - in `opening`, that a file is made only where nothing has its name, that its lock is taken and its name looked at again behind that, that its
+//!   length is that of the disk, that what the system still holds of it is synced before a block is read, and that of a file which is made all other
+//!   blocks are written and synced before block 0, and the folder is synced last;
+//! - in `lanes`, that each lane gets the bytes that its own block of the file has.
 //!
 //! What is trusted of the system and of the drive stands in `docs/HEADLINE.md`.
-//! May touch: memory, files.
+//! May touch: memory, threads, files.
 #![tactic(auto)]
 
 mod fault;

@@ -1,6 +1,7 @@
-// Runs the library file system on disks in memory: its calls with the writes that they take, over a world, a kernel, and a kernel that
-// threads share; two threads at once; its sizes, its faults, crashes after each write of a rename, of a replacement and of four files' lives, what is
-// reclaimed after crashes, and random calls of two file systems beside each other, also on disks where their types were just installed.
+// Runs the library file system on disks in memory, beside a plain model, with device faults and crashes. These are run: its calls with the writes that
+// they take, over a world, a kernel, and a kernel that threads share; two threads at once; its sizes, its faults, crashes after each write of a rename,
+// of a replacement and of four files' lives, what is reclaimed after crashes, and random calls of two file systems beside each other, also on disks where
+// their types were just installed.
 // May touch: memory, threads, streams.
 #![tactic(auto)]
 

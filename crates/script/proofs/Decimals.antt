@@ -57,9 +57,6 @@ pub record IsValueTo (text : List ℕ) (place number : ℕ) : Type 0 where
   pub digits : AllDigits 10 (take place text)
   pub value : number ≡ digits_value 10 (take place text)
 
-pub no_value : (text : List ℕ) → IsValueTo text 0 0
-no_value text = record { digits = tt; value = refl }
-
 digits_more : (text : List ℕ) (place : ℕ) → place < length text → AllDigits 10 (take place text) → digit_value (get_or text place 0) < 10 →
     AllDigits 10 (take (suc place) text)
 digits_more [] place within digits digit = absurd (omega arith)

@@ -6,5 +6,4 @@ pub mod EditCuts
 pub mod PrintedBytes
 pub mod ScriptLines
 pub mod EventWords
-pub mod ToldLines
 pub mod ForCallers

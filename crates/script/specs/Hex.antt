@@ -1,4 +1,4 @@
-use Rattle.std.specs.Prelude.{◌≡◌, ℕ, ◌+◌, ◌-◌, ◌*◌, ◌%◌, ◌<◌, ◌≤◌, ◌⊎◌, Bool, ◌&&◌, ◌||◌, nat_le, List, length, IsTrue, slice_index, if◌then◌else◌, codes}
+use Rattle.std.specs.Prelude.{◌≡◌, ℕ, ◌+◌, ◌-◌, ◌*◌, ◌%◌, ◌<◌, ◌≤◌, ◌⊎◌, Bool, ◌&&◌, ◌||◌, nat_le, List, ◌++◌, length, take, drop, replicate, IsTrue, slice_index, if◌then◌else◌, codes}
 
 -- one of 0 to 9 and a to f
 abbrev pub is_hex_digit : ℕ → Bool
@@ -31,3 +31,7 @@ SpellsBlock text block = (k : ℕ) → k < 512 → slice_index block k ≡ hex_b
 pub record SpellsBytes (text bytes : List ℕ) : Type 0 where
   pub count : length text ≡ 2 * length bytes
   pub each : (k : ℕ) → k < length bytes → slice_index bytes k ≡ hex_byte text k
+
+-- the block that begins with these bytes, as far as it has room, and has zeros behind them
+abbrev pub block_with : List ℕ → List ℕ
+block_with bytes = take 512 bytes ++ drop (length (take 512 bytes)) (replicate 512 0)

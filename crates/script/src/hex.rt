@@ -1,5 +1,5 @@
 ghost use Rattle.std.specs.Prelude.{◌≡◌, ◌+◌, ◌*◌, ◌<◌, ◌≤◌, ◌↔◌, IsTrue, IsSome, IfSome, IfNone, IfOk, Some, None, length, slice_index};
-ghost use Rattle.script.specs.Hex.{is_hex_digit, hex_digit_value, hex_byte, IsHex, IsBlockText, SpellsBlock, SpellsBytes};
+ghost use Rattle.script.specs.Hex.{is_hex_digit, hex_digit_value, hex_byte, IsHex, IsBlockText, SpellsBlock, SpellsBytes, block_with};
 
 use std::alloc::{AllocError, Global};
 
@@ -37,30 +37,6 @@ fn count_pairs(digits: &[u8]) -> Option<usize>
     Some(digits.len() / 2)
 }
 
-/// The block that 1 to 512 pairs of lower-case digits spell; the bytes behind them are zero.
-fn parse_pairs(digits: &[u8]) -> Option<[u8; 512]>
-    ensures readable { IsSome result ↔ IsHex digits.now }
-    ensures block { IfSome result (SpellsBlock digits.now) }
-{
-    let pairs = count_pairs(digits)?;
-    let mut block = [0u8; 512];
-    for place in 0..pairs {
-        block[place] = pair_value(digits[2 * place], digits[2 * place + 1])?;
-    }
-    Some(block)
-}
-
-/// The block that 1 to 512 pairs of lower-case digits spell, or `-` for none; the bytes behind them are zero.
-pub fn parse_block(text: &str) -> Option<[u8; 512]>
-    ensures readable { IsSome result ↔ IsBlockText text.now }
-    ensures block { IfSome result (SpellsBlock text.now) }
-{
-    if text == "-" {
-        return Some([0; 512]);
-    }
-    parse_pairs(text.as_bytes())
-}
-
 /// The bytes that 1 to 512 pairs of lower-case digits spell.
 pub fn parse_bytes(alloc: Global, text: &str) -> Result<Option<Vec<u8>>, AllocError>
     ensures readable { IfOk result (λ read. IsSome read ↔ IsHex text.now) }
@@ -78,4 +54,25 @@ pub fn parse_bytes(alloc: Global, text: &str) -> Result<Option<Vec<u8>>, AllocEr
         bytes.push_reserved(byte);
     }
     Ok(Some(bytes))
+}
+
+/// The bytes at the beginning of a block that 1 to 512 pairs of lower-case digits spell, or `-` for none; those behind them are zero.
+pub fn parse_start(alloc: Global, text: &str) -> Result<Option<Vec<u8>>, AllocError>
+    ensures readable { IfOk result (λ read. IsSome read ↔ IsBlockText text.now) }
+    ensures block { IfOk result (λ read. IfSome read (λ bytes. SpellsBlock text.now (block_with bytes.items))) }
+{
+    if text == "-" {
+        return Ok(Some(Vec::new(alloc)));
+    }
+    parse_bytes(alloc, text)
+}
+
+/// The block that begins with these bytes, as far as it has room; those behind them are zero.
+pub fn block_with(bytes: &[u8]) -> [u8; 512]
+    ensures { result ≡ block_with bytes.now }
+{
+    let mut block = [0u8; 512];
+    let start = &bytes[..512usize.min(bytes.len())];
+    block[..start.len()].copy_from_slice(start);
+    block
 }

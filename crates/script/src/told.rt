@@ -1,11 +1,11 @@
 use edit_list::{Edit, Patch};
 use xn_state::Fs;
 
-/// An event as its line tells it: the bytes of a fresh block or of a template are still the text that spells them, or that spells none. It takes few
-/// bytes, where an `Event` has room for a block and is long to copy; an edit that has more than patches stands behind a pointer.
+/// An event as its line tells it. It takes few bytes, where an `Event` has room for a block and is long to copy: of a fresh block and of a template it has the
+/// bytes that the line spells, and an edit that has more than patches stands behind a pointer.
 #[derive(Drop)]
-pub enum LineEvent<'a> {
-    Init(Fs, u32, &'a str),
+pub enum LineEvent {
+    Init(Fs, u32, Vec<u8>),
     /// An edit that has patches alone, as most do.
     Patches(Fs, u32, Vec<Patch>),
     /// Any edit.
@@ -18,7 +18,7 @@ pub enum LineEvent<'a> {
     Floor(Fs),
     Pick(Fs),
     Drain(Fs),
-    Install(&'a str),
+    Install(Vec<u8>),
     Begin(u32),
     Land(u32),
     Fail(u32, bool),

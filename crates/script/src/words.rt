@@ -8,6 +8,7 @@ ghost use Rattle.script.specs.Events.{Spells, SpellNothing, IsNoWrite};
 ghost use Rattle.script.specs.Told.{SpellsEvent};
 ghost use Rattle.script.specs.Scripts.{words_in, line_words};
 
+use crate::hex::parse_start;
 use crate::number::parse_small;
 use crate::told::LineEvent;
 use crate::{parse_edit, parse_numbers, parse_u32};
@@ -26,23 +27,29 @@ fn parse_fs(word: &str) -> Option<Fs>
 }
 
 /// The event of the words `init`, these two and the words behind them.
-fn parse_init<'a>(fs: &str, ty: &str, words: &[&'a str]) -> Option<LineEvent<'a>>
-    ensures some { IfSome result (SpellsEvent (codes "init" ∷ fs.now ∷ ty.now ∷ map (λ word. word.now) words.now)) }
-    ensures none { IfNone result (SpellNothing (codes "init" ∷ fs.now ∷ ty.now ∷ map (λ word. word.now) words.now)) }
+fn parse_init(
+    alloc: Global,
+    fs: &str,
+    ty: &str,
+    words: &[&str],
+) -> Result<Option<LineEvent>, AllocError>
+    ensures some { IfOk result (λ read. IfSome read (SpellsEvent (codes "init" ∷ fs.now ∷ ty.now ∷ map (λ word. word.now) words.now))) }
+    ensures none { IfOk result (λ read. IfNone read (SpellNothing (codes "init" ∷ fs.now ∷ ty.now ∷ map (λ word. word.now) words.now))) }
 {
     let [bytes] = words else {
-        return None;
+        return Ok(None);
     };
-    Some(LineEvent::Init(parse_fs(fs)?, parse_u32(ty)?, bytes))
+    let (Some(fs), Some(ty)) = (parse_fs(fs), parse_u32(ty)) else {
+        return Ok(None);
+    };
+    match parse_start(alloc, bytes)? {
+        Some(bytes) => Ok(Some(LineEvent::Init(fs, ty, bytes))),
+        None => Ok(None),
+    }
 }
 
 /// An edit of a block as a line tells it.
-fn tell_edit<'a>(
-    alloc: Global,
-    fs: Fs,
-    block: u32,
-    mut edit: Edit,
-) -> Result<LineEvent<'a>, AllocError>
+fn tell_edit(alloc: Global, fs: Fs, block: u32, mut edit: Edit) -> Result<LineEvent, AllocError>
     ensures { IfOk result (λ told. (words : List (List ℕ)) → Spells words (Event.Call fs (Call.Propose block edit)) → SpellsEvent words told) }
 {
     if edit.adds.is_empty() && edit.drops.is_empty() && edit.after.is_none() {
@@ -53,12 +60,12 @@ fn tell_edit<'a>(
 }
 
 /// The event of the words `edit`, these two and the words behind them.
-fn parse_edit_event<'a>(
+fn parse_edit_event(
     alloc: Global,
     fs: &str,
     block: &str,
     words: &[&str],
-) -> Result<Option<LineEvent<'a>>, AllocError>
+) -> Result<Option<LineEvent>, AllocError>
     ensures some { IfOk result (λ read. IfSome read (SpellsEvent (codes "edit" ∷ fs.now ∷ block.now ∷ map (λ word. word.now) words.now))) }
     ensures none { IfOk result (λ read. IfNone read (SpellNothing (codes "edit" ∷ fs.now ∷ block.now ∷ map (λ word. word.now) words.now))) }
 {
@@ -72,7 +79,7 @@ fn parse_edit_event<'a>(
 }
 
 /// The event of a name and two words behind it, a file system and a block.
-fn parse_place<'a>(name: &str, fs: &str, block: &str) -> Option<LineEvent<'a>>
+fn parse_place(name: &str, fs: &str, block: &str) -> Option<LineEvent>
     ensures some { IfSome result (SpellsEvent (name.now ∷ fs.now ∷ block.now ∷ [])) }
     ensures none { IfNone result (name.now ≢ codes "edit" → name.now ≢ codes "fail" → name.now ≢ codes "crash" →
         SpellNothing (name.now ∷ fs.now ∷ block.now ∷ [])) }
@@ -88,7 +95,7 @@ fn parse_place<'a>(name: &str, fs: &str, block: &str) -> Option<LineEvent<'a>>
 }
 
 /// The event of the word `fail` and two words behind it, a block and which bytes stay.
-fn parse_fail<'a>(block: &str, bytes: &str) -> Option<LineEvent<'a>>
+fn parse_fail(block: &str, bytes: &str) -> Option<LineEvent>
     ensures some { IfSome result (SpellsEvent (codes "fail" ∷ block.now ∷ bytes.now ∷ [])) }
     ensures none { IfNone result (SpellNothing (codes "fail" ∷ block.now ∷ bytes.now ∷ [])) }
 {
@@ -101,7 +108,7 @@ fn parse_fail<'a>(block: &str, bytes: &str) -> Option<LineEvent<'a>>
 }
 
 /// The event of a name and two words behind it.
-fn parse_triple<'a>(name: &str, first: &str, second: &str) -> Option<LineEvent<'a>>
+fn parse_triple(name: &str, first: &str, second: &str) -> Option<LineEvent>
     ensures some { IfSome result (SpellsEvent (name.now ∷ first.now ∷ second.now ∷ [])) }
     ensures none { IfNone result (name.now ≢ codes "edit" → name.now ≢ codes "crash" → SpellNothing (name.now ∷ first.now ∷ second.now ∷ [])) }
 {
@@ -113,7 +120,7 @@ fn parse_triple<'a>(name: &str, first: &str, second: &str) -> Option<LineEvent<'
 }
 
 /// The event of a name and one word behind it, a file system.
-fn parse_system<'a>(name: &str, word: &str) -> Option<LineEvent<'a>>
+fn parse_system(name: &str, word: &str) -> Option<LineEvent>
     ensures some { IfSome result (SpellsEvent (name.now ∷ word.now ∷ [])) }
     ensures none { IfNone result (IsNoWrite name.now → name.now ≢ codes "install" → name.now ≢ codes "crash" → SpellNothing (name.now ∷ word.now ∷ [])) }
 {
@@ -126,13 +133,26 @@ fn parse_system<'a>(name: &str, word: &str) -> Option<LineEvent<'a>>
     }
 }
 
-/// The event of a name and one word behind it.
-fn parse_short<'a>(name: &str, word: &'a str) -> Option<LineEvent<'a>>
+/// The event of the word `install` and the word behind it, a template's bytes.
+fn parse_install(alloc: Global, word: &str) -> Result<Option<LineEvent>, AllocError>
+    ensures some { IfOk result (λ read. IfSome read (SpellsEvent (codes "install" ∷ word.now ∷ []))) }
+    ensures none { IfOk result (λ read. IfNone read (SpellNothing (codes "install" ∷ word.now ∷ []))) }
+{
+    if word == "-" {
+        return Ok(None);
+    }
+    match parse_start(alloc, word)? {
+        Some(bytes) => Ok(Some(LineEvent::Install(bytes))),
+        None => Ok(None),
+    }
+}
+
+/// The event of a name and one word behind it, where that is no template.
+fn parse_short(name: &str, word: &str) -> Option<LineEvent>
     ensures some { IfSome result (SpellsEvent (name.now ∷ word.now ∷ [])) }
-    ensures none { IfNone result (name.now ≢ codes "crash" → SpellNothing (name.now ∷ word.now ∷ [])) }
+    ensures none { IfNone result (name.now ≢ codes "install" → name.now ≢ codes "crash" → SpellNothing (name.now ∷ word.now ∷ [])) }
 {
     match name {
-        "install" => Some(LineEvent::Install(word)),
         "begin" => Some(LineEvent::Begin(parse_u32(word)?)),
         "land" => Some(LineEvent::Land(parse_u32(word)?)),
         "sync" => Some(LineEvent::Sync(parse_u32(word)?)),
@@ -143,7 +163,7 @@ fn parse_short<'a>(name: &str, word: &'a str) -> Option<LineEvent<'a>>
 }
 
 /// The event of a name alone, a call of file system 0.
-fn parse_name<'a>(name: &str) -> Option<LineEvent<'a>>
+fn parse_name(name: &str) -> Option<LineEvent>
     ensures some { IfSome result (SpellsEvent (name.now ∷ [])) }
     ensures none { IfNone result (name.now ≢ codes "crash" → SpellNothing (name.now ∷ [])) }
 {
@@ -156,19 +176,19 @@ fn parse_name<'a>(name: &str) -> Option<LineEvent<'a>>
 }
 
 /// The event of a name, two words behind it and the words behind those.
-fn parse_long<'a>(
+fn parse_long(
     alloc: Global,
     name: &str,
     first: &str,
     second: &str,
-    rest: &[&'a str],
-) -> Result<Option<LineEvent<'a>>, AllocError>
+    rest: &[&str],
+) -> Result<Option<LineEvent>, AllocError>
     ensures some { IfOk result (λ read. IfSome read (SpellsEvent (name.now ∷ first.now ∷ second.now ∷ map (λ word. word.now) rest.now))) }
     ensures none { IfOk result (λ read. IfNone read
         (name.now ≢ codes "crash" → SpellNothing (name.now ∷ first.now ∷ second.now ∷ map (λ word. word.now) rest.now))) }
 {
     match name {
-        "init" => Ok(parse_init(first, second, rest)),
+        "init" => parse_init(alloc, first, second, rest),
         "edit" => parse_edit_event(alloc, first, second, rest),
         _ if rest.is_empty() => Ok(parse_triple(name, first, second)),
         _ => Ok(None),
@@ -176,7 +196,7 @@ fn parse_long<'a>(
 }
 
 /// The event of the word `crash` and the words behind it, blocks.
-fn parse_crash<'a>(alloc: Global, words: &[&str]) -> Result<Option<LineEvent<'a>>, AllocError>
+fn parse_crash(alloc: Global, words: &[&str]) -> Result<Option<LineEvent>, AllocError>
     ensures some { IfOk result (λ read. IfSome read (SpellsEvent (codes "crash" ∷ map (λ word. word.now) words.now))) }
     ensures none { IfOk result (λ read. IfNone read (SpellNothing (codes "crash" ∷ map (λ word. word.now) words.now))) }
 {
@@ -216,7 +236,7 @@ fn read_words<'a>(
     words: &mut Vec<&'a str>,
     name: &str,
     rest: Option<&'a str>,
-) -> Result<Option<LineEvent<'a>>, AllocError>
+) -> Result<Option<LineEvent>, AllocError>
     ensures some { IfOk result (λ read. IfSome read (SpellsEvent (name.now ∷ words_in (option_copied rest.entry)))) }
     ensures none { IfOk result (λ read. IfNone read (name.now ≢ codes "crash" → SpellNothing (name.now ∷ words_in (option_copied rest.entry)))) }
 {
@@ -225,7 +245,10 @@ fn read_words<'a>(
     };
     let (first, rest) = first_word(rest);
     let Some(rest) = rest else {
-        return Ok(parse_short(name, first));
+        return match name {
+            "install" => parse_install(alloc, first),
+            _ => Ok(parse_short(name, first)),
+        };
     };
     let (second, rest) = first_word(rest);
     cut_words(rest, words)?;
@@ -237,7 +260,7 @@ pub fn read_line<'a>(
     alloc: Global,
     words: &mut Vec<&'a str>,
     line: &'a str,
-) -> Result<Option<LineEvent<'a>>, AllocError>
+) -> Result<Option<LineEvent>, AllocError>
     ensures some { IfOk result (λ read. IfSome read (SpellsEvent (line_words line.now))) }
     ensures none { IfOk result (λ read. IfNone read (SpellNothing (line_words line.now))) }
 {

@@ -3,6 +3,7 @@
 --     IsHub bytes_of crash_leaves hub   what is known of every hub that is found under a lock
 --     AllRaised hub                     each word is its file system's floor
 --     MayAnswer .. fs call a            what a call may answer that is made under a lock
+--     MayMeet .. fs floor               which floor a reader may be told that meets under a lock
 use Rattle.std.specs.Prelude.{◌≡◌, ℕ, ◌<◌, ◌≤◌, List, slice_index}
 use Rattle.xn_model.specs.Lives.{StoreState}
 use Rattle.xn_model.specs.Calls.{floor_of}
@@ -40,3 +41,9 @@ pub record MayAnswer {L : Type 0} (bytes_of : L → List ℕ) (crash_leaves : L 
   pub sound : IsHub bytes_of crash_leaves found
   pub answers : StateAnswers (own_types found.kernel.state) found.kernel.state fs call left.kernel.state answer
   pub rest : left ≡ with_store found left.kernel.state
+
+-- On some hub that was found under the lock this is the file system's floor.
+pub record MayMeet {L : Type 0} (bytes_of : L → List ℕ) (crash_leaves : L → List ℕ → Type 0) (fs : ℕ) (floor : ℕ) : Type 0 where
+  pub found : HubValue L
+  pub sound : IsHub bytes_of crash_leaves found
+  pub is_floor : floor ≡ floor_of found.kernel.state fs

@@ -1,16 +1,16 @@
 // The threads that write blocks.
 
-ghost use Rattle.std.specs.Prelude.{◌≡◌, Some, None, IfNone, IfSome, IsTrue};
-ghost use Rattle.shared.specs.Flushers.{CouldNotSync};
+ghost use Rattle.std.specs.Prelude.{◌≡◌, Some, None, false, IfNone, IfSome, IfOk, IfErr, IsTrue};
+ghost use Rattle.shared.specs.Flushers.{CouldNotSync, FlusherEnds, TurnEnds, TurnFails, HasBegun, NothingToWrite, Finishes, FinishRefuses, writes_after};
 
 use crate::hub::Hub;
 use crate::lock::{Gate, Held, Locked};
 use crate::sharing::Shared;
-use disk::Lane;
+use disk::{DeviceFault, Lane};
 use durable_floor::Naming;
 use std::sync::Wait;
 use std::thread;
-use xn_kernel::{Refusal, Ticket};
+use xn_kernel::{Landed, Refusal, Ticket};
 
 /// How a flusher ended.
 pub struct FlushEnd<L: Lane> {
@@ -41,6 +41,7 @@ impl<'a, L: Lane, G: Gate, K: Naming> Flusher<'a, Hub<L, K>, G> {
     ///   and its block stays in flight, so that it may be synced again and finished;
     /// - with the refusal and the ticket after a finish that is refused, of a write that is synced.
     pub fn run<R: Wait>(&self, rt: &R) -> FlushEnd<L>
+        ensures ends { FlusherEnds L.bytes_of L.crash_leaves L.faults_of L.write_gives L.sync_gives L.read_gives result.writes result.fault result.ticket }
         ensures none { IfNone result.fault (result.ticket ≡ None) }
         ensures unsynced { IfSome result.ticket (λ ticket. IsTrue ticket.unsynced →
             (result.fault ≡ Some Refusal.Device) × CouldNotSync L.sync_gives ticket.lane) }
@@ -49,28 +50,18 @@ impl<'a, L: Lane, G: Gate, K: Naming> Flusher<'a, Hub<L, K>, G> {
         for _ in rt.forever() {
             // The flag is read before the look: what was pending when it was set is written.
             let stopped = self.shared.is_stopped();
-            let Some(mut ticket) = self.begun(rt) else {
+            let Some(ticket) = self.begin(rt) else {
                 if stopped {
                     return flush_end(writes, None, None);
                 }
                 thread::yield_now();
                 continue;
             };
-            let block = ticket.block();
-            self.shared.gate.begun(block);
-            let landed = ticket.land();
-            self.shared.gate.landed(block);
-            if ticket.sync().is_err() {
-                return flush_end(writes, Some(Refusal::Device), Some(ticket));
-            }
-            let finished = self.shared.lock(rt).finish(ticket);
-            match finished {
+            match self.turn(rt, ticket) {
                 Err((ticket, refusal)) => return flush_end(writes, Some(refusal), Some(ticket)),
-                Ok(done) => {
-                    if done.durable > 0 {
-                        writes = writes.saturating_add(1);
-                    }
-                    if landed.is_err() {
+                Ok((written, durable)) => {
+                    writes = counted(writes, durable);
+                    if written.is_err() {
                         return flush_end(writes, Some(Refusal::Device), None);
                     }
                 }
@@ -80,10 +71,63 @@ impl<'a, L: Lane, G: Gate, K: Naming> Flusher<'a, Hub<L, K>, G> {
     }
 
     /// Takes the lock, and begins the write of a block where one may be written.
-    fn begun<R: Wait>(&self, rt: &R) -> Option<Ticket<L>> {
+    fn begin<R: Wait>(&self, rt: &R) -> Option<Ticket<L>>
+        ensures none { IfNone result (NothingToWrite L.bytes_of L.crash_leaves) }
+        ensures begun { IfSome result (HasBegun L.bytes_of L.crash_leaves) }
+    {
         let mut hub = self.shared.lock(rt);
+        hub.is_sound();
         let block = hub.pick()?;
-        hub.begin(block).ok()
+        let Ok(ticket) = hub.begin(block) else {
+            unreachable!()
+        };
+        Some(ticket)
+    }
+
+    /// Writes and syncs a block with no lock held, and finishes it under the lock. Answers what the write answered, and how many entries
+    /// are durable; or gives the ticket back, where the sync failed (`Device`) or the finish was refused.
+    fn turn<R: Wait>(
+        &self,
+        rt: &R,
+        mut ticket: Ticket<L>,
+    ) -> Result<(Result<(), DeviceFault>, u32), (Ticket<L>, Refusal)>
+        requires { HasBegun L.bytes_of L.crash_leaves ticket }
+        ensures ok { IfOk result (λ done. TurnEnds L.bytes_of L.crash_leaves L.faults_of L.write_gives L.sync_gives L.read_gives done.0 done.1) }
+        ensures err { IfErr result (λ back. TurnFails L.bytes_of L.crash_leaves L.faults_of L.write_gives L.sync_gives L.read_gives back.1 back.0) }
+    {
+        let block = ticket.block();
+        self.shared.gate.begun(block);
+        let written = ticket.land();
+        self.shared.gate.landed(block);
+        if ticket.sync().is_err() {
+            return Err((ticket, Refusal::Device));
+        }
+        match self.finish(rt, ticket) {
+            Ok(landed) => Ok((written, landed.durable)),
+            Err(back) => Err(back),
+        }
+    }
+
+    /// Takes the lock, and finishes a write that is synced.
+    fn finish<R: Wait>(&self, rt: &R, ticket: Ticket<L>) -> Result<Landed, (Ticket<L>, Refusal)>
+        requires { ticket.unsynced ≡ false }
+        ensures ok { IfOk result (λ landed. Finishes L.bytes_of L.crash_leaves L.read_gives ticket landed.durable) }
+        ensures err { IfErr result (λ back. FinishRefuses L.bytes_of L.crash_leaves L.faults_of L.read_gives ticket back.1 back.0) }
+    {
+        let mut hub = self.shared.lock(rt);
+        hub.is_sound();
+        hub.finish(ticket)
+    }
+}
+
+/// A count of writes after one that made so many entries durable.
+fn counted(writes: u32, durable: u32) -> u32
+    ensures { result ≡ writes_after writes durable }
+{
+    if durable > 0 {
+        writes.saturating_add(1)
+    } else {
+        writes
     }
 }
 

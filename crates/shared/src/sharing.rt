@@ -2,7 +2,7 @@
 
 ghost use Rattle.std.specs.Prelude.{◌≡◌, ◌≢◌, ◌≤◌, slice_index, slice_set};
 ghost use Rattle.xn_state.specs.declared.call.Call.TheVariants.{Drain};
-ghost use Rattle.shared.specs.Hubs.{HubValue, MayAnswer};
+ghost use Rattle.shared.specs.Hubs.{HubValue, MayAnswer, MayMeet};
 
 use crate::hub::Hub;
 use crate::lock::{Gate, Held, Locked};
@@ -28,9 +28,12 @@ impl<L: Lane, G: Gate, K: Naming> Locked<Hub<L, K>, G> {
     /// Takes the lock, and tells a reader the floor of a file system.
     pub fn meet<R: Wait>(&self, rt: &R, fs: Fs, reader: &mut Reader) -> u64
         requires { reader.old.floor ≡ K.floor }
+        ensures floor { MayMeet L.bytes_of L.crash_leaves fs.number result }
         ensures grows { slice_index reader.old.seen fs.number ≤ result }
         ensures seen { reader.new ≡ record reader.old { seen = slice_set reader.old.seen fs.number result } }
     {
-        self.lock(rt).meet(fs, reader)
+        let mut hub = self.lock(rt);
+        hub.is_sound();
+        hub.meet(fs, reader)
     }
 }

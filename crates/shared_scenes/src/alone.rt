@@ -1,4 +1,4 @@
-// One thread: a start, a flush, a meeting, a call, a block that is forgotten.
+// One thread: a start, a flush, a meeting, a call, a block that is forgotten, a stop.
 
 ghost use Rattle.std.specs.Prelude.{◌≡◌};
 ghost use Rattle.durable_floor.specs.Rules.{zero_floor};
@@ -9,7 +9,7 @@ use crate::sharing::{end_of, share};
 use disk::{Lane, MemLane};
 use durable_floor::{Floor, Naming, Publisher, Reader};
 use shared::{Flusher, Gate, Hub, Shared, worker};
-use std::alloc::Global;
+use std::alloc::{AllocError, Global};
 use std::marker::Brand;
 use std::process::Abort;
 use std::sync::Wait;
@@ -140,6 +140,22 @@ fn forgets<K: Naming, R: Wait + Abort>(
     Ok(())
 }
 
+/// Whether the stop flag is set, before a stop and after it.
+fn stops<K: Naming>(
+    alloc: Global,
+    floor: Floor,
+    publisher: Publisher,
+    kernel: Kernel<MemLane>,
+) -> Result<[bool; 2], AllocError>
+    requires floor { floor ≡ K.floor }
+    requires publisher { publisher ≡ record { floor = floor; seen = zero_floor } }
+{
+    let shared: Shared<MemLane, Open, K> = share(alloc, kernel, floor, publisher, Open)?;
+    let before = shared.is_stopped();
+    shared.stop();
+    Ok([before, shared.is_stopped()])
+}
+
 #[test]
 fn a_flush_is_told(rt: HostRuntime) -> Result<(), Fail> {
     let kernel = mounted(&rt, rt.alloc(), bare_lanes(rt.alloc())?)?;
@@ -169,4 +185,13 @@ fn a_forgotten_block_is_free(rt: HostRuntime) -> Result<(), Fail> {
     let (floor, publisher, mut readers) = Floor::new(rt.alloc(), 1)?;
     let reader = readers.pop().ok_or("a reader")?;
     forgets::<Brand, _>(&rt, rt.alloc(), floor, publisher, reader, kernel)
+}
+
+#[test]
+fn a_stop_is_seen(rt: HostRuntime) -> Result<(), Fail> {
+    let kernel = mounted(&rt, rt.alloc(), bare_lanes(rt.alloc())?)?;
+    let (floor, publisher, _readers) = Floor::new(rt.alloc(), 0)?;
+    let seen = stops::<Brand>(rt.alloc(), floor, publisher, kernel)?;
+    assert_eq!(rt; seen, [false, true]);
+    Ok(())
 }

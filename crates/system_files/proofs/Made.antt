@@ -1,7 +1,8 @@
 -- Lists of calls that were made one after another.
 use Rattle.std.proofs.Common.{◌≡◌, ℕ, Bool, true, false, List, [], ◌∷◌, ◌++◌, map, Option, Some, None, refl, sym, ◌∙◌, ap, append_assoc, inl, inr, subst}
 use Rattle.std.specs.Prelude.{Result, Ok, Err, IfOk, IfSome, IsErrAnd, OnErr, is_ok}
-use Rattle.system_files.specs.Calls.{AllQuiet, Call, Calls, Compare, Goes, IsLeft, IsLocked, IsQuiet, Lock, Looked, Make, Makes, MakesNone, Remove, Replaces, Step, SyncFolder, failed, missed, plan, well, with_calls}
+use Rattle.std.specs.List.{AllByRecursion}
+use Rattle.system_files.specs.Calls.{Call, Calls, Compare, Goes, IsLeft, IsLocked, IsQuiet, Lock, Looked, Make, Makes, MakesNone, Remove, Replaces, Step, SyncFolder, failed, missed, plan, well, with_calls}
 use Rattle.system_files.specs.Naming.{IsBeside}
 
 pub joined_calls : (calls : Calls) (xs ys : List Call) → with_calls (with_calls calls xs) ys ≡ with_calls calls (xs ++ ys)
@@ -69,9 +70,6 @@ goes_well xs old new (Err fault) d wrong goes = cc
 
 -- New files
 
-pub makes_none : (calls : Calls) → MakesNone calls calls
-makes_none calls = ([], no_calls calls)
-
 missed_append : (xs ys : List (List ℕ)) → missed (xs ++ ys) ≡ missed xs ++ missed ys
 missed_append [] ys = refl
 missed_append (x ∷ xs) ys = ap (λ zs. failed (Make x) ∷ zs) (missed_append xs ys)
@@ -108,11 +106,6 @@ replaced keeps bytes path beside old made filled new (Err fault) (start, is, cal
       (calls_after made filled new (map well (plan keeps bytes beside path)) (failed SyncFolder ∷ []) fills syncs),
 )
 
--- nothing could be made
-pub left_unmade : {A E : Type 0} (keeps : Bool) (bytes path : List ℕ) (old new : Calls) (r : Result A E) (Q : E → Type 0) → IsErrAnd r Q → MakesNone old new → Replaces keeps bytes path old new r
-left_unmade keeps bytes path old new (Ok done) Q wrong none = absurd wrong
-left_unmade keeps bytes path old new (Err fault) Q is (names, calls) = (missed names, inl (names, refl), calls)
-
 -- what was made is removed
 pub left_removed : {A E : Type 0} (keeps : Bool) (bytes path beside : List ℕ) (old made cut new : Calls) (r : Result A E) (fault : E) →
     Makes path beside old made → r ≡ Err fault → Goes (plan keeps bytes beside path) made cut r → new ≡ with_calls cut (well (Remove beside) ∷ []) →
@@ -136,7 +129,7 @@ looked_none calls = record { quiet = []; all = tt; calls = no_calls calls }
 pub looked_same : (old new : Calls) → new ≡ old → Looked old new
 looked_same old new is = subst (Looked old) (sym is) (looked_none old)
 
-all_quiet : (xs ys : List Call) → AllQuiet xs → AllQuiet ys → AllQuiet (xs ++ ys)
+all_quiet : (xs ys : List Call) → AllByRecursion IsQuiet xs → AllByRecursion IsQuiet ys → AllByRecursion IsQuiet (xs ++ ys)
 all_quiet [] ys p q = q
 all_quiet (x ∷ xs) ys (p, ps) q = (p, all_quiet xs ys ps q)
 
@@ -150,28 +143,12 @@ looked_on old mid new first second = record {
 pub looked_once : (old new : Calls) (call : Call) → IsQuiet call → new ≡ with_calls old (call ∷ []) → Looked old new
 looked_once old new call quiet is = record { quiet = call ∷ []; all = (quiet, tt); calls = is }
 
-pub is_locked : (old mid new : Calls) (path : List ℕ) (one two : Bool) → one ≡ true → two ≡ true → mid ≡ with_calls old ((Lock, one) ∷ []) →
-    new ≡ with_calls mid ((Compare path, two) ∷ []) → IsLocked path old new
-is_locked old mid new path one two well_one well_two locks compares = record {
-  quiet = [];
-  all = tt;
-  calls = calls_after old mid new (well Lock ∷ []) (well (Compare path) ∷ []) (locks ∙ ap (λ d. with_calls old ((Lock, d) ∷ [])) well_one)
-      (compares ∙ ap (λ d. with_calls mid ((Compare path, d) ∷ [])) well_two);
-}
-
 pub locked_after : (old mid new : Calls) (path : List ℕ) → Looked old mid → IsLocked path mid new → IsLocked path old new
 locked_after old mid new path first second = record {
   quiet = first.quiet ++ second.quiet;
   all = all_quiet first.quiet second.quiet first.all second.all;
   calls = calls_after old mid new first.quiet (second.quiet ++ well Lock ∷ well (Compare path) ∷ []) first.calls second.calls
       ∙ ap (with_calls old) (sym (append_assoc first.quiet second.quiet (well Lock ∷ well (Compare path) ∷ [])));
-}
-
-pub locked_looked : (old new : Calls) (path : List ℕ) → IsLocked path old new → Looked old new
-locked_looked old new path locked = record {
-  quiet = locked.quiet ++ well Lock ∷ well (Compare path) ∷ [];
-  all = all_quiet locked.quiet (well Lock ∷ well (Compare path) ∷ []) locked.all (tt, (tt, tt));
-  calls = locked.calls;
 }
 
 pub value_in : {T E : Type 0} (P : T → Type 0) (r : Result (Option T) E) (t : T) → r ≡ Ok (Some t) → IfOk r (λ found. IfSome found P) → P t

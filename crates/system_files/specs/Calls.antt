@@ -1,5 +1,6 @@
 -- The calls of a system by which a file is written: those that take its lock, and those that change anything. Looking and opening are none.
 use Rattle.std.specs.Prelude.{◌≡◌, ◌⊎◌, ⊤, ℕ, Bool, true, false, if◌then◌else◌, List, [], ◌∷◌, ◌++◌, map, IsErr, is_ok, Option, Some, None, option_map, Result, Ok, Err, MatchResult}
+use Rattle.std.specs.List.{AllByRecursion}
 use Rattle.system_files.specs.Naming.{IsBeside}
 
 pub data Step : Type 0 where
@@ -56,20 +57,16 @@ IsQuietStep step = ⊥
 abbrev pub IsQuiet : Call → Type 0
 IsQuiet call = IsQuietStep call.0
 
-abbrev pub AllQuiet : List Call → Type 0
-AllQuiet [] = ⊤
-AllQuiet (call ∷ calls) = IsQuiet call × AllQuiet calls
-
 -- nothing was changed
 pub record Looked (old new : Calls) : Type 0 where
   pub quiet : List Call
-  pub all : AllQuiet quiet
+  pub all : AllByRecursion IsQuiet quiet
   pub calls : new ≡ with_calls old quiet
 
 -- and the file of this path was locked, and then looked at again
 pub record IsLocked (path : List ℕ) (old new : Calls) : Type 0 where
   pub quiet : List Call
-  pub all : AllQuiet quiet
+  pub all : AllByRecursion IsQuiet quiet
   pub calls : new ≡ with_calls old (quiet ++ well Lock ∷ well (Compare path) ∷ [])
 
 -- the mode and the owner, where there is an old file

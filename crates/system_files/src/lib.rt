@@ -1,6 +1,6 @@
-//! One way to write a file of the system. A regular file, or one that is not there yet, is replaced whole: its bytes are first written and synced
-//! beside it, and then the new file takes its name. So a stop at any moment, or a fault, leaves the file as it was or as it is to be, and a file that
-//! anybody has locked is left alone.
+//! How a file of the system is replaced, and how one is opened with its lock. There is one way to write a file: a regular file, or one that is not there
+//! yet, is replaced whole. Its bytes are first written and synced beside it, and then the new file takes its name. So a stop at any moment, or a fault,
+//! leaves the file as it was or as it is to be, and a file that anybody has locked is left alone.
 //!
 //! What is done and in which order is proved of the functions in `taking` and `replacing`, over the trait `System`. That the system's own calls are what
 //! `real` takes them for is to be read, and not proved.

@@ -1,4 +1,4 @@
-//! Templates: how blocks of a type are read, the block that spells one, the table of all types, and fresh images.
+//! What teaches a type: two programs, the block that spells them, the table of all types, the fields of block 0, and fresh images.
 //! May touch: memory.
 #![tactic(auto)]
 

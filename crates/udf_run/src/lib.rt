@@ -1,4 +1,4 @@
-//! Runs checked programs on blocks.
+//! Runs checked programs on blocks, and tells which chunks of a block a run read.
 //!
 //! The verifier's promise holds for each run, so nothing is tested while a program runs: neither a budget nor a range.
 //! May touch: nothing.

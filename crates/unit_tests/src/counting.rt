@@ -1,21 +1,23 @@
-// Lanes that count the syncs and reads of a whole disk.
+// Lanes that count the writes, syncs and reads of a whole disk.
 
 ghost use Rattle.std.specs.Prelude.{⊤};
 ghost use Rattle.disk.specs.Mem.{memory_leaves};
 
-use crate::disks::fresh_lanes;
+use crate::disks::{fresh_lanes, fs};
 use crash_check::mount;
 use disk::{BLOCK_LEN, DeviceFault, Lane, Lanes, MemLane};
 use std::alloc::Global;
 use std::sync::Arc;
 use std::sync::atomic::{AtomicU64, Ordering};
 use std::test::Fail;
+use xn_kernel::{EditId, FlushStop, Kernel};
 
-/// A lane in memory. All lanes of a disk have one count of syncs and reads, and each keeps at which of them its own came last.
+/// A lane in memory. All lanes of a disk have one count of writes, syncs and reads, and each keeps at which of them its own came last.
 #[derive(Drop)]
 struct CountingLane {
     lane: MemLane,
     count: Arc<AtomicU64, Global>,
+    written_at: Option<u64>,
     synced_at: Option<u64>,
     read_at: Option<u64>,
 }
@@ -49,6 +51,7 @@ impl Lane for CountingLane {
     }
 
     fn write(&mut self, from: &[u8; BLOCK_LEN]) -> Result<(), DeviceFault> {
+        self.written_at = Some(self.count.fetch_add(1, Ordering::SeqCst));
         self.lane.write(from)
     }
 
@@ -70,6 +73,7 @@ fn counting_lanes(alloc: Global) -> Result<Lanes<CountingLane>, Fail> {
         let lane = CountingLane {
             lane: lanes.take(block).ok_or("no lane")?,
             count: Arc::try_clone(&count)?,
+            written_at: None,
             synced_at: None,
             read_at: None,
         };
@@ -94,5 +98,46 @@ fn a_mount_syncs_and_reads_each_lane_by_rising_number(rt: HostRuntime) -> Result
     }
     let lane = kernel.lane(0).ok_or("no lane")?;
     assert_eq!(rt; lane.count.load(Ordering::SeqCst), 64);
+    Ok(())
+}
+
+/// How many waves a flush took; `None` where it stopped, and its tickets are given up.
+fn flushed(kernel: &mut Kernel<CountingLane>, alloc: Global) -> Option<u32> {
+    match kernel.flush(alloc) {
+        Ok(waves) => Some(waves),
+        Err(stop) => {
+            let FlushStop {
+                waves: _,
+                mut tickets,
+                refusal: _,
+            } = stop;
+            while let Some(ticket) = tickets.pop() {
+                let _lane = ticket.into_lane();
+            }
+            tickets.destroy_empty();
+            None
+        }
+    }
+}
+
+#[test]
+fn a_wave_is_written_before_its_first_sync(rt: HostRuntime) -> Result<(), Fail> {
+    let lanes = counting_lanes(rt.alloc())?;
+    let Ok(mut kernel) = mount(&rt, rt.alloc(), lanes, 1) else {
+        return Err("no mount".into());
+    };
+    let owner = fs(0)?;
+    for block in 1..4u32 {
+        let begun = kernel.init(owner, 2, &[0x41; 512]);
+        assert_eq!(rt; begun, Ok((block, EditId(u64::from(block)))));
+    }
+    assert_eq!(rt; flushed(&mut kernel, rt.alloc()), Some(1));
+    // Behind the mount's 64 syncs and reads come three writes, and then three syncs, each with its read.
+    for block in 1..4u32 {
+        let lane = kernel.lane(block).ok_or("no lane")?;
+        let number = u64::from(block);
+        assert_eq!(rt; lane.written_at, Some(63 + number));
+        assert_eq!(rt; lane.synced_at, Some(73 - 2 * number));
+    }
     Ok(())
 }

@@ -1,5 +1,5 @@
 // A disk in memory with its kernel, run by events.
-// May touch: memory, threads.
+// May touch: memory, threads, streams.
 #![tactic(auto)]
 
 pub mod law;

@@ -10,7 +10,7 @@ use Rattle.xn_model.specs.declared.refusal.Refusal.{Refusal}
 use Rattle.xn_model.specs.declared.refusal.Refusal.TheVariants.{NoSpace, TooManyPending, Exhausted, NotFresh, NotOwned, NotEmpty, RootTaken}
 use Rattle.xn_model.specs.Calls.{Edit, patched, first_state, new_life, init_at, init_refusal, init_of, accepts, edited, propose_of, propose_at, too_many, exhausted, is_empty, root_now, slot_now, life_bytes, root_state, life_pending, make_root_of, make_root_at, drop_root_of, forget_of, forget_at, forget_refusal, edit_tests}
 use Rattle.xn_model.specs.Rules.{IsConsistent}
-use Rattle.xn_model.proofs.ForCallers.{accepted, Contains-none, Contains-head, Contains-cons, last_of, accepted_is, each_back, set_same, set_other, freed_is, free_back, given_ok, own_then, same_ok, never_ok, unless_ok, lowest_is, claim_stays, in_newest, fresh_owned, slot_stays, in_range, forgets}
+use Rattle.xn_model.proofs.ForCallers.{of_life, accepted, Contains-none, Contains-head, Contains-cons, last_of, accepted_is, each_back, set_same, set_other, freed_is, free_back, given_ok, own_then, same_ok, never_ok, unless_ok, lowest_is, claim_stays, in_newest, fresh_owned, slot_stays, in_range, forgets}
 use Rattle.xn_model.specs.Root.{owned_by_root}
 use Rattle.xn_history.specs.Histories.{History, Histories, bytes_in, type_in, accepting, change_in, start_in, edit_state, slot_state, rooted}
 use Rattle.xn_history.specs.Moments.{IsHistoryOf, AreHistoriesOf}
@@ -123,8 +123,7 @@ module _ (T : Types) (state new : StoreState) (h : IsConsistent T state) (hs : H
       let r = h.lives_sound.root in
       let linked = h.linked 0 r.life r.alive in
       let o = linked.owned d v (in_newest T state.lives 0 r.life linked (d, v) names) in
-      let same : r.life ≡ o.life = same_Some r.life o.life (sym r.alive ∙ (ap (life_at state.lives) (sym zero) ∙ o.alive)) in
-      fresh_owned 0 (sym r.unowned ∙ (ap (λ (l : Life). l.status) same ∙ o.status))
+      fresh_owned 0 (sym r.unowned ∙ of_life o r.life (ap (life_at state.lives) zero ∙ r.alive))
 
   -- a root slot's change keeps what another place names
   slot_keeps : (fs : ℕ) → fs < 32 → (p : ℕ × ℕ) → p.0 < 2 ^ 32 → p.1 < 2 ^ 32 → (drops : List ℕ) → ((d v : ℕ) → d ≢ 0 → slot (root_now state) fs ≡ (d, v) → Contains drops d) → (s : BlockState) → s.bytes ≡ with_slot (root_now state) fs p →

@@ -53,14 +53,14 @@ module _ (w : World) (h : Holds w) (hs : Histories) (known : AreHistoriesOf w.st
 
   -- an owned block that is reached goes on
   owned_goes : (e : Event) (r : Reply) (w' : World) → IsEvent e → Step w e r w' → (c a u : ℕ) → IsOwnedBy w.state.lives a c → ((image : List (List ℕ)) → MayLeave w image → Reach (types_on w image) (length image) (block_of image) c u) → (l : Life) × (life_at w'.state.lives c ≡ Some l)
-  owned_goes (Client fs k) r w' few s c a u o reached = (goes w h hs known (Client fs k) r w' few s refl).survive c a o.life o.alive o.status
-  owned_goes (Install m) r w' few s c a u o reached = (goes w h hs known (Install m) r w' few s refl).survive c a o.life o.alive o.status
-  owned_goes (Begin b) r w' few s c a u o reached = (goes w h hs known (Begin b) r w' few s refl).survive c a o.life o.alive o.status
-  owned_goes (Land b) r w' few s c a u o reached = (goes w h hs known (Land b) r w' few s refl).survive c a o.life o.alive o.status
-  owned_goes (Fail b stays) r w' few s c a u o reached = (goes w h hs known (Fail b stays) r w' few s refl).survive c a o.life o.alive o.status
-  owned_goes (Finish b) r w' few s c a u o reached = (goes w h hs known (Finish b) r w' few s refl).survive c a o.life o.alive o.status
-  owned_goes (Sync b) r w' few s c a u o reached = (goes w h hs known (Sync b) r w' few s refl).survive c a o.life o.alive o.status
-  owned_goes (FailSync b) r w' few s c a u o reached = (goes w h hs known (FailSync b) r w' few s refl).survive c a o.life o.alive o.status
+  owned_goes (Client fs k) r w' few s c a u o reached = (goes w h hs known (Client fs k) r w' few s refl).survive c a o.life o.alive o.holds
+  owned_goes (Install m) r w' few s c a u o reached = (goes w h hs known (Install m) r w' few s refl).survive c a o.life o.alive o.holds
+  owned_goes (Begin b) r w' few s c a u o reached = (goes w h hs known (Begin b) r w' few s refl).survive c a o.life o.alive o.holds
+  owned_goes (Land b) r w' few s c a u o reached = (goes w h hs known (Land b) r w' few s refl).survive c a o.life o.alive o.holds
+  owned_goes (Fail b stays) r w' few s c a u o reached = (goes w h hs known (Fail b stays) r w' few s refl).survive c a o.life o.alive o.holds
+  owned_goes (Finish b) r w' few s c a u o reached = (goes w h hs known (Finish b) r w' few s refl).survive c a o.life o.alive o.holds
+  owned_goes (Sync b) r w' few s c a u o reached = (goes w h hs known (Sync b) r w' few s refl).survive c a o.life o.alive o.holds
+  owned_goes (FailSync b) r w' few s c a u o reached = (goes w h hs known (FailSync b) r w' few s refl).survive c a o.life o.alive o.holds
   owned_goes (Crash kept) r w' few s c a u o reached = let l = (crash_lives w kept r w' s).all c u (reached (left w kept) (left_may w h kept)) in (l.0, l.1)
 
   -- each block of a chain is reached in every image that a crash may leave

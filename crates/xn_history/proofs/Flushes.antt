@@ -3,14 +3,14 @@ use Rattle.std.proofs.Common.{◌≡◌, ℕ, true, false, cond, List, [], take,
 use Rattle.std.specs.Prelude.{Contains, option_map, ◌==◌, slice_get}
 use Rattle.std.specs.List.{last_or}
 use Rattle.std.proofs.lemmas.Bool.{cases_Bool, cases_eq, eq-eqb, ne_eqb}
-use Rattle.std.proofs.lemmas.Option.{same_Some, none-some}
+use Rattle.std.proofs.lemmas.Option.{none-some}
 use Rattle.xn_model.specs.Lists.{has_number}
 use Rattle.xn_model.specs.Types.{Types}
 use Rattle.xn_model.specs.Lives.{BlockState, Life, Lives, StoreState, life_at, newest, durable_after, begun_at, settled_at, freed, drops_of}
 use Rattle.xn_model.specs.declared.status.Status.TheVariants.{Owned}
 use Rattle.xn_model.specs.Calls.{begun_of, begun_place, settled_of, settled_place, settled_after, settled_with, first_pending}
 use Rattle.xn_model.specs.Rules.{IsConsistent}
-use Rattle.xn_model.proofs.ForCallers.{with_begun, settled, bared, each, free, has_number_at, Contains-take, Contains-drop, begun_is, free_at, each_back, each_forth, free_back, free_forth, settled_is, map_ok, settled_last, owned_dropped, settles_place, drops_at}
+use Rattle.xn_model.proofs.ForCallers.{of_life, with_begun, settled, bared, each, free, has_number_at, Contains-take, Contains-drop, begun_is, free_at, each_back, each_forth, free_back, free_forth, settled_is, map_ok, settled_last, owned_dropped, settles_place, drops_at}
 use Rattle.xn_history.specs.Histories.{History, Histories, telling, change_in}
 use Rattle.xn_history.specs.Moments.{IsHistoryOf, AreHistoriesOf}
 use Rattle.xn_history.proofs.Turns as turn
@@ -206,8 +206,7 @@ settled_flushes T state new h b k s = subst (Flushes state.lives) s.lives (recor
     never c a l e owned i =
         let d = drops_at (take k s.life.pending) c i in
         let by = (h.linked b s.life s.alive).dropped d.0 c (Contains-take k s.life.pending d.0 d.1) d.2 in
-        let same : by.life ≡ l = same_Some by.life l (sym by.alive ∙ e) in
-        owned_dropped a b (sym owned ∙ (ap (λ (x : Life). x.status) (sym same) ∙ by.status))
+        owned_dropped a b (sym owned ∙ of_life by l e)
 
 pub settled_turns : (T : Types) (state new : StoreState) (hs : Histories) → AreHistoriesOf state.lives hs → (b k : ℕ) → Settled T state new b k → Turns T state.next [] None state.lives hs new.lives (change_in hs b (telling k))
 settled_turns T state new hs known b k s = subst (λ xs. Turns T state.next [] None state.lives hs xs (change_in hs b (telling k))) s.lives (λ c l' e.

@@ -10,7 +10,7 @@ use Rattle.xn_model.specs.Images.{block_of, Reach}
 use Rattle.xn_model.specs.Lives.{BlockState, Life, Lives, life_at, carried, bytes_of, durable_after, on_disk}
 use Rattle.xn_model.specs.Mounts.{IsRecovered}
 use Rattle.xn_model.specs.Worlds.{World, MayLeave, types_now, types_on}
-use Rattle.xn_model.specs.Rules.{Holds, HoldsState}
+use Rattle.xn_model.specs.Rules.{Holds}
 use Rattle.xn_model.proofs.ForCallers.{Contains-none, Contains-head, Contains-cons, Contains-tail, left_agrees, carried_pending}
 use Rattle.xn_history.specs.Histories.{History, Histories, last_told, since, up_to, has_bytes, told_by, found_with}
 use Rattle.xn_history.specs.Moments.{IsHistoryOf, AreHistoriesOf}
@@ -93,9 +93,9 @@ module _ (w : World) (h : Holds w) (hs : Histories) (known : AreHistoriesOf w.st
   -- the bytes of a reached block are those of a state of its history
   pub reached_finds : (c u : ℕ) → Reach (types_on w image) (length image) (block_of image) c u → (x : History) × (hs c ≡ Some x) × (x.ty ≡ u) × Finds (block_of image c) x
   reached_finds c u r =
-      let holds : HoldsState (block_of image) w.state.lives c u = (left_agrees w h image may).states c u r in
-      let x = matched (life_at w.state.lives c) (hs c) (known c) holds.life holds.alive in
-      (x.0, x.1, x.2.ty ∙ holds.ty, finds (block_of image c) holds.life x.0 x.2 holds.state holds.among (sym holds.there))
+      let s = (left_agrees w h image may).states c u r in
+      let x = matched (life_at w.state.lives c) (hs c) (known c) s.life s.alive in
+      (x.0, x.1, x.2.ty ∙ s.holds.0, finds (block_of image c) s.life x.0 x.2 s.holds.1 s.holds.2 (sym s.holds.3))
 
   pub crash_turn : (lives : Lives) → IsRecovered (types_on w image) image lives → (next : ℕ) (drops : List ℕ) (Edited : Type 0) (c : ℕ) (l : Life) → life_at lives c ≡ Some l →
       Turn (types_now w) next drops Edited (life_at w.state.lives c) (hs c) l (found_with (Some l) (hs c))

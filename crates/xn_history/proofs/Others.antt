@@ -4,10 +4,10 @@ use Rattle.std.specs.Prelude.{Contains}
 use Rattle.std.specs.List.{AllByRecursion}
 use Rattle.std.proofs.lemmas.Bool.{cases_eq, eqb-false}
 use Rattle.std.proofs.lemmas.Option.{none-some, same_Some}
-use Rattle.xn_model.specs.Lives.{Life, life_at}
+use Rattle.xn_model.specs.Lives.{life_at}
 use Rattle.xn_model.specs.Worlds.{World, types_now, Call, Init, Propose, MakeRoot, DropRoot, Forget, Read, Root, Kind, Tainted, Pending, Floor, FreeCount, Pick, Drain, Event, Client, Install, Begin, Land, Fail, Sync, FailSync, Finish, Crash, Reply, Edited, Installed, Step, Run, IsEvent}
 use Rattle.xn_model.specs.Rules.{Holds, IsInFileSystem, NamedIn}
-use Rattle.xn_model.proofs.ForCallers.{Contains-none, Contains-cons, last_of, step_keeps, fresh_owned}
+use Rattle.xn_model.proofs.ForCallers.{of_life, Contains-none, Contains-cons, last_of, step_keeps, fresh_owned}
 use Rattle.xn_history.specs.Histories.{History, Histories, type_in, edited_block, dropped_blocks, histories_after}
 use Rattle.xn_history.specs.Moments.{RunWhere, AreHistoriesOf}
 use Rattle.xn_history.specs.Promises.{Names, IsNamedChain, LeavesAlone, IsNoEditBy}
@@ -21,13 +21,10 @@ module _ (w : World) (h : Holds w) (hs : Histories) (known : AreHistoriesOf w.st
   not_root : (fs c : ℕ) → IsInFileSystem w.state.lives (Some fs) c → c ≢ 0
   not_root fs c i zero =
       let r = h.state.lives_sound.root in
-      let same : r.life ≡ i.life = same_Some r.life i.life (sym r.alive ∙ (ap (life_at w.state.lives) (sym zero) ∙ i.alive)) in
-      none-some fs (sym r.nobody ∙ (ap (λ (l : Life). l.fs) same ∙ i.same))
+      none-some fs (sym r.nobody ∙ of_life i r.life (ap (life_at w.state.lives) zero ∙ r.alive))
 
   one_system : (fs g c : ℕ) → IsInFileSystem w.state.lives (Some fs) c → IsInFileSystem w.state.lives (Some g) c → g ≡ fs
-  one_system fs g c i j =
-      let same : j.life ≡ i.life = same_Some j.life i.life (sym j.alive ∙ i.alive) in
-      same_Some g fs (sym j.same ∙ (ap (λ (l : Life). l.fs) same ∙ i.same))
+  one_system fs g c i j = same_Some g fs (sym (of_life j i.life i.alive) ∙ i.holds)
 
   -- an owner is of the same file system
   owner_system : (fs a c : ℕ) → Names (types_now w) hs a c → a ≢ 0 → IsInFileSystem w.state.lives (Some fs) c → IsInFileSystem w.state.lives (Some fs) a
@@ -37,8 +34,7 @@ module _ (w : World) (h : Holds w) (hs : Histories) (known : AreHistoriesOf w.st
       let named = named_newest w h hs known a c n l.0 l.1 in
       let in' = (h.state.lives_sound.each a l.0 l.1).same_system linked.last c (type_in (hs c)) ne (last_of l.0.durable l.0.pending linked.last linked.is_last)
       (subst (λ o. NamedIn (types_now w) l.0.ty o (c, type_in (hs c))) linked.is_last named) in
-      let same : in'.life ≡ i.life = same_Some in'.life i.life (sym in'.alive ∙ i.alive) in
-      record { life = l.0; alive = l.1; same = sym in'.same ∙ (ap (λ (x : Life). x.fs) same ∙ i.same) }
+      record { life = l.0; alive = l.1; holds = sym in'.holds ∙ of_life i in'.life in'.alive }
 
   -- so each block of a chain but block 0 is
   chain_system : (fs c : ℕ) (blocks : List ℕ) → IsNamedChain (types_now w) hs (c ∷ blocks) → IsInFileSystem w.state.lives (Some fs) c → (d : ℕ) → Contains (c ∷ blocks) d → (d ≡ 0) ⊎ IsInFileSystem w.state.lives (Some fs) d
@@ -55,9 +51,7 @@ module _ (w : World) (h : Holds w) (hs : Histories) (known : AreHistoriesOf w.st
       only_root a [] zero chain d among = elim (Contains-cons a [] d among) [ inl same ↦ sym same ∙ zero | inr none ↦ absurd (Contains-none d none) ]
       only_root a (b ∷ blocks) zero chain d among =
           let r = h.state.lives_sound.root in
-          let o = owned_by w h hs known b a chain.0 in
-          let same : r.life ≡ o.life = same_Some r.life o.life (sym r.alive ∙ (ap (life_at w.state.lives) (sym zero) ∙ o.alive)) in
-          absurd (fresh_owned b (sym r.unowned ∙ (ap (λ (l : Life). l.status) same ∙ o.status)))
+          absurd (fresh_owned b (sym r.unowned ∙ of_life (owned_by w h hs known b a chain.0) r.life (ap (life_at w.state.lives) zero ∙ r.alive)))
 
   module _ (fs b : ℕ) (blocks : List ℕ) (chain : IsNamedChain (types_now w) hs (b ∷ blocks)) (mine : IsInFileSystem w.state.lives (Some fs) b) where
     -- a call of another file system
@@ -115,7 +109,7 @@ run_leaves_alone fs b blocks w hs (e ∷ es) [] w' each none h known chain x at 
 run_leaves_alone fs b blocks w hs (e ∷ es) (r ∷ rs) w' each none h known chain x at mine run =
     let l = living (life_at w.state.lives b) (hs b) (known b) x at in
     let next = histories_after hs e r run.0.state.lives in
-    let alone = left_alone w h hs known fs b blocks chain (record { life = l.0; alive = l.1; same = sym l.2.fs ∙ mine }) e r run.0 next each.0 none.0 run.1 in
+    let alone = left_alone w h hs known fs b blocks chain (record { life = l.0; alive = l.1; holds = sym l.2.fs ∙ mine }) e r run.0 next each.0 none.0 run.1 in
     let told = chain_told w h hs known e r run.0 each.0 run.1 b blocks chain x at in
     let more = run_leaves_alone fs b blocks run.0 next es rs w' each.1 none.1 (step_keeps w e r run.0 each.0 h run.1) (known_after w h hs known e r run.0 each.0 run.1)
     (chain_on w h hs known e r run.0 each.0 run.1 b blocks chain alone.1) told.now told.is (told.fs ∙ mine) run.2 in

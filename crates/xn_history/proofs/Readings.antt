@@ -57,5 +57,5 @@ read_survives w h hs known g n drained few s fs c u m read answer reached es rs 
     let newest : current r.0.life ≡ told.last.bytes = current_is r.0.life x.0 x.2
     ∙ (ap (λ (z : History). bytes_of (last_or (last_told z) z.untold)) (sym same) ∙ (ap (λ xs. bytes_of (last_or (last_told told.history) xs)) told.all ∙ ap bytes_of told.is_last)) in
     let bytes : block_of drained.image c ≡ m = sym told.has ∙ (sym newest ∙ sym r.0.newest) in
-    let done = drained_survive w h hs known g n drained few s fs c u reached (record { life = r.0.life; alive = own.alive; same = own.mine }) es rs after each none (subst (λ v. Run v es rs after) r.1 run) in
+    let done = drained_survive w h hs known g n drained few s fs c u reached (record { life = r.0.life; alive = own.alive; holds = own.mine }) es rs after each none (subst (λ v. Run v es rs after) r.1 run) in
     λ image may. ((done image may).0 ∙ bytes, (done image may).1)

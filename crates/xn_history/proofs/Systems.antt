@@ -1,19 +1,18 @@
 -- A call edits and drops blocks of its own file system alone.
-use Rattle.std.proofs.Common.{◌≡◌, ◌≢◌, ℕ, ◌<◌, ◌&&◌, true, not, [], ◌∷◌, length, Some, None, Ok, refl, sym, ◌∙◌, ap, inl, inr, subst}
+use Rattle.std.proofs.Common.{◌≡◌, ◌≢◌, ℕ, ◌<◌, ◌&&◌, true, not, [], ◌∷◌, Some, None, Ok, refl, sym, ◌∙◌, ap, inl, inr, subst}
 use Rattle.std.specs.Prelude.{Contains, ◌==◌}
 use Rattle.std.specs.List.{list_all}
 use Rattle.std.proofs.lemmas.Bool.{and_parts, not-false, eqb-false, cond_both}
 use Rattle.std.proofs.lemmas.Option.{none-some, same_Some}
-use Rattle.xn_model.specs.Lists.{distinct, has_number, blocks_of}
-use Rattle.xn_model.specs.Types.{claims, named_once, within_size}
+use Rattle.xn_model.specs.Lists.{distinct}
 use Rattle.xn_model.specs.Root.{slot}
-use Rattle.xn_model.specs.Lives.{Life, StoreState, life_at, newest, current, bytes_of, chain_end}
+use Rattle.xn_model.specs.Lives.{Life, StoreState, life_at, current, bytes_of}
 use Rattle.xn_model.specs.declared.refusal.Refusal.{Refusal}
-use Rattle.xn_model.specs.declared.refusal.Refusal.TheVariants.{NoMemory, TooManyPending, Exhausted, BadPatch, BadAfter, NotFresh, Cycle, NotOwned, NotEmpty, ClaimWrong, SizeWrong}
-use Rattle.xn_model.specs.Calls.{Edit, patched, accepts, edited, propose_of, propose_at, too_many, exhausted, within_limits, was_given, may_add, may_drop, is_empty, root_now, slot_now, life_bytes, init_of, make_root_of, life_pending, root_state, drop_root_of}
+use Rattle.xn_model.specs.declared.refusal.Refusal.TheVariants.{NoMemory, TooManyPending, Exhausted, NotOwned, NotEmpty}
+use Rattle.xn_model.specs.Calls.{edit_tests, Edit, patched, accepts, edited, propose_of, propose_at, too_many, exhausted, may_drop, is_empty, root_now, slot_now, life_bytes, init_of, make_root_of, life_pending, root_state, drop_root_of}
 use Rattle.xn_model.specs.Worlds.{World, types_now, Call, Init, Propose, MakeRoot, DropRoot, Forget, Read, Root, Kind, Tainted, Pending, Floor, FreeCount, Pick, Drain, Client, Reply, Started, Edited, Down, Refused, call, AfterCall}
 use Rattle.xn_model.specs.Rules.{Holds, IsInFileSystem, IsOwnedBy, NamedIn}
-use Rattle.xn_model.proofs.ForCallers.{Contains-none, Contains-cons, all_at, last_of, own_then, unless_ok, droppable, not_root}
+use Rattle.xn_model.proofs.ForCallers.{of_life, Contains-none, Contains-cons, all_at, last_of, own_then, unless_ok, droppable, not_root}
 use Rattle.xn_history.specs.Histories.{Histories, rooted, edited_block, dropped_blocks}
 use Rattle.xn_history.specs.Moments.{AreHistoriesOf}
 use Rattle.xn_history.proofs.Calls.{root_bytes}
@@ -54,34 +53,21 @@ module _ (w : World) (h : Holds w) (hs : Histories) (known : AreHistoriesOf w.st
   owned_system : (fs b : ℕ) (l : Life) → life_at w.state.lives b ≡ Some l → l.fs ≡ Some fs → b ≢ 0 → (d : ℕ) → IsOwnedBy w.state.lives b d → IsInFileSystem w.state.lives (Some fs) d
   owned_system fs b l alive mine ne d o =
       let linked = h.state.linked b l alive in
-      let n = h.state.statuses.owned d o.life b o.alive o.status in
-      let same : n.life ≡ l = same_Some n.life l (sym n.alive ∙ alive) in
-      let named : NamedIn (types_now w) l.ty (newest l) (d, o.life.ty) = subst (λ (z : Life). NamedIn (types_now w) z.ty (newest z) (d, o.life.ty)) same n.names in
+      let named = of_life (h.state.statuses.owned d o.life b o.alive o.holds) l alive in
       let in' = (h.state.lives_sound.each b l alive).same_system linked.last d o.life.ty ne (last_of l.durable l.pending linked.last linked.is_last)
       (subst (λ o'. NamedIn (types_now w) l.ty o' (d, o.life.ty)) linked.is_last named) in
-      record { life = in'.life; alive = in'.alive; same = in'.same ∙ mine }
+      record { life = in'.life; alive = in'.alive; holds = in'.holds ∙ mine }
 
   own_propose : (fs b : ℕ) (e : Edit) (given : ℕ × StoreState) → propose_of (types_now w) w.state fs b e ≡ Ok given → IsOwnCall fs (Propose b e) (Edited given.0)
   own_propose fs b e given done =
       let own = own_then w.state fs b (propose_at (types_now w) w.state fs b e) given done in
       let l : Life = own.0 in
       let m = patched (current l) e.patches in
-      let u = unless_ok (
-      (too_many w.state fs (length l.pending), TooManyPending)
-      ∷ (exhausted w.state, Exhausted)
-      ∷ (not (within_limits e), BadPatch)
-      ∷ (not (was_given w.state e.after), BadAfter)
-      ∷ (not (list_all (may_add w.state fs) e.adds && distinct (blocks_of e.adds)), NotFresh)
-      ∷ (has_number (blocks_of e.adds) (chain_end w.state.lives b), Cycle)
-      ∷ (not (list_all (may_drop w.state b) e.drops && distinct e.drops), NotOwned)
-      ∷ (not (list_all (is_empty (types_now w) w.state) e.drops), NotEmpty)
-      ∷ (not (claims (types_now w) l.ty (current l) m e.adds e.drops && named_once (types_now w) l.ty m), ClaimWrong)
-      ∷ (not (within_size (types_now w) l.ty m), SizeWrong)
-      ∷ []) (Ok (accepts w.state b (edited w.state.next fs e l))) given own.2 in
+      let u = unless_ok (edit_tests (types_now w) w.state fs b e l) (Ok (accepts w.state b (edited w.state.next fs e l))) given own.2 in
       let drops = (and_parts (list_all (may_drop w.state b) e.drops) (distinct e.drops) (not-false (list_all (may_drop w.state b) e.drops && distinct e.drops) u.0.1.1.1.1.1.1.0)).0 in
       record {
         drops = λ d i. owned_system fs b l own.1.alive own.1.mine (not_root (types_now w) w.state h.state fs b l own.1.alive own.1.mine) d (droppable w.state b d (all_at (may_drop w.state b) e.drops d drops i));
-        edits = λ c e' ne. subst (IsInFileSystem w.state.lives (Some fs)) (same_Some b c e') (record { life = l; alive = own.1.alive; same = own.1.mine });
+        edits = λ c e' ne. subst (IsInFileSystem w.state.lives (Some fs)) (same_Some b c e') (record { life = l; alive = own.1.alive; holds = own.1.mine });
       }
 
   own_drop_root : (fs : ℕ) → fs < 32 → (given : ℕ × StoreState) → drop_root_of (types_now w) w.state fs ≡ Ok given → IsOwnCall fs DropRoot (Edited given.0)

@@ -73,7 +73,7 @@ drained_survive w h hs known g n w' few s fs c u reached mine es rs after each n
     let told = told_of w' h1 hs1 known1 all w'.image h1.newest c u reached in
     let chain = chain_of w' h1 hs1 known1 all w'.image h1.newest c u reached in
     let x = matched (life_at w'.state.lives c) (hs1 c) (known1 c) mine.life mine.alive in
-    let alone = run_leaves_alone fs c chain.0 w' hs1 es rs after each none h1 known1 chain.1 x.0 x.1 (x.2.fs ∙ mine.same) run in
+    let alone = run_leaves_alone fs c chain.0 w' hs1 es rs after each none h1 known1 chain.1 x.0 x.1 (x.2.fs ∙ mine.holds) run in
     survives c u chain.0 (block_of w'.image c) w' hs1 es rs after alone.0 each h1 known1 chain.1 (has_bytes hs1 c u (block_of w'.image c) told) alone.1
 
 -- A finish

@@ -17,12 +17,12 @@ use Rattle.xn_model.proofs.Changes.{accepted, accept, status_after}
 use Rattle.xn_model.proofs.Catalogue.{on_disk_each, pointers_push}
 use Rattle.xn_model.proofs.Languages.{kept_types, latest_each}
 use Rattle.xn_model.proofs.Lists.{Contains-none, Contains-cons, last_of, blocks_of_at, has_number_at, has_number_from}
-use Rattle.xn_model.proofs.Lives.{each_forth, each_back, accepted_is, length_accepted}
+use Rattle.xn_model.proofs.Lives.{each_forth, each_back, at_each, of_life, accepted_is, length_accepted}
 use Rattle.xn_model.proofs.Carry.{Carries, types_still}
 use Rattle.xn_model.proofs.Chains.{HasChain, alone, below, chain_of, chain_ends, ends_at, goes_on}
 use Rattle.xn_model.proofs.Orders.{AreBelow, below_next, ordered_accept}
 use Rattle.xn_model.proofs.States.{MayBeRoot, MayAccept, last_push, states_push, carried_still, with_state, accepted_other, accepted_same, status_cases, status_stays, fresh_owned, same_owner, owned_dropped}
-use Rattle.xn_model.proofs.AcceptedLives.{now, template_other, added_fresh, fresh_after, dropped_other, carries, held_other, kept_other, held_grown, kept_grown, owned_added}
+use Rattle.xn_model.proofs.AcceptedLives.{now, template_other, added_fresh, fresh_after, dropped_other, carries, held_other, kept_other, held_grown, kept_grown, owned_added, owned_still}
 
 module _ (T : Types) (state : StoreState) (h : IsConsistent T state) (b : ℕ) (l : Life) (s : BlockState) (alive : life_at state.lives b ≡ Some l) (may : MayAccept T state.lives b l s) (number : s.entry ≡ state.next)
     (may_root : b ≡ 0 → MayBeRoot T state.lives h.lives_sound.root s) where
@@ -90,7 +90,7 @@ module _ (T : Types) (state : StoreState) (h : IsConsistent T state) (b : ℕ) (
         alive = each_forth (accepted b s) state.lives 0 r.life r.alive;
         ty = r.ty;
         nobody = r.nobody;
-        unowned = fresh_after T state.lives b l s alive may r 0 r.life r.alive r.unowned (λ i. let p = blocks_of_at s.adds 0 i in (may.adds 0 p.0 p.1).not_root refl);
+        unowned = fresh_after T state.lives b l s alive may r 0 r.life r.alive r.unowned (λ i. let p = blocks_of_at s.adds 0 i in (may.adds 0 p.0 p.1).holds.2 refl);
         state = r.state;
         durable = r.durable;
         mark = λ t i. elim (state_from 0 r.life t i) [ inl old ↦ rw carries_next.count (r.mark t old) | inr new ↦ rw (carries_next.count, ← new.0) (may_root (sym new.1)).mark ];
@@ -137,59 +137,46 @@ module _ (T : Types) (state : StoreState) (h : IsConsistent T state) (b : ℕ) (
 
   older_next : (c n : ℕ) → IsOlder state.lives c n → IsOlder next_lives c n
   unfolding next_lives
-  older_next c n o = record { life = accepted b s c o.life; alive = each_forth (accepted b s) state.lives c o.life o.alive; older = elim o.older [ inl d ↦ inl d | inr t ↦ inr (t.0, pending_still c o.life t.0 t.1, t.2) ] }
+  older_next c n o = at_each (accepted b s) o (elim o.holds [ inl d ↦ inl d | inr t ↦ inr (t.0, pending_still c o.life t.0 t.1, t.2) ])
 
   older_type_next : (u n : ℕ) → IsOlderType state.lives u n → IsOlderType next_lives u n
   unfolding next_lives
-  older_type_next u n o = record {
-    life = accepted b s 0 o.life;
-    alive = each_forth (accepted b s) state.lives 0 o.life o.alive;
-    older = elim o.older [ inl d ↦ inl d | inr t ↦ inr (t.0, pending_still 0 o.life t.0 t.1, t.2, t.3) ];
-  }
+  older_type_next u n o = at_each (accepted b s) o (elim o.holds [ inl d ↦ inl d | inr t ↦ inr (t.0, pending_still 0 o.life t.0 t.1, t.2, t.3) ])
+
+  -- the newest state of a block that is alive is on the disk, or pending and older than the new one
+  last_older : (c : ℕ) (m : Life) (e : life_at state.lives c ≡ Some m) →
+      (m.durable ≡ Some (h.linked c m e).last) ⊎ (Contains m.pending (h.linked c m e).last × ((h.linked c m e).last.entry < s.entry))
+  last_older c m e =
+      let k = h.linked c m e in
+      let in' = last_of m.durable m.pending k.last k.is_last in
+      elim (Contains-append_cases (option_to_list m.durable) m.pending k.last in') [
+        | inl d ↦ inl (some_is m.durable k.last d)
+        | inr p ↦ inr (p, let lt = h.numbers c m k.last e in' in let e' = number in omega arith)
+      ]
+    where
+      some_is : (o : Option BlockState) (x : BlockState) → Contains (option_to_list o) x → o ≡ Some x
+      some_is None x i = absurd (Contains-none x i)
+      some_is (Some y) x i = elim (Contains-cons y [] x i) [ inl e ↦ ap Some e | inr none ↦ absurd (Contains-none x none) ]
 
   -- a type that there is stands in block 0
   older_installed : (u : ℕ) → IsTrue (T.installed u) → IsOlderType state.lives u s.entry
   older_installed u i =
       let r = h.lives_sound.root in
       let k = h.linked 0 r.life r.alive in
-      let in' = last_of r.life.durable r.life.pending k.last k.is_last in
       let has = r.all_types k.last u k.is_last i in
-      record {
-        life = r.life;
-        alive = r.alive;
-        older = elim (Contains-append_cases (option_to_list r.life.durable) r.life.pending k.last in') [
-          | inl d ↦ inl (k.last, some_is r.life.durable k.last d, has)
-          | inr p ↦ inr (k.last, p, let lt = h.numbers 0 r.life k.last r.alive in' in let e' = number in omega arith, has)
-        ];
-      }
-    where
-      some_is : (o : Option BlockState) (x : BlockState) → Contains (option_to_list o) x → o ≡ Some x
-      some_is None x i = absurd (Contains-none x i)
-      some_is (Some y) x i = elim (Contains-cons y [] x i) [ inl e ↦ ap Some e | inr none ↦ absurd (Contains-none x none) ]
+      record { life = r.life; alive = r.alive; holds = elim (last_older 0 r.life r.alive) [ inl d ↦ inl (k.last, d, has) | inr p ↦ inr (k.last, p.0, p.1, has) ] }
 
   -- a living block is older than the new state
   older_alive : (c : ℕ) (m : Life) → life_at state.lives c ≡ Some m → IsOlder state.lives c s.entry
   older_alive c m e =
       let k = h.linked c m e in
-      let in' = last_of m.durable m.pending k.last k.is_last in
-      record {
-        life = m;
-        alive = e;
-        older = elim (Contains-append_cases (option_to_list m.durable) m.pending k.last in') [
-          | inl d ↦ inl (some_in m.durable k.last d)
-          | inr p ↦ inr (k.last, p, let lt = h.numbers c m k.last e in' in let e' = number in omega arith)
-        ];
-      }
-    where
-      some_in : (o : Option BlockState) (x : BlockState) → Contains (option_to_list o) x → (y : BlockState) × (o ≡ Some y)
-      some_in None x i = absurd (Contains-none x i)
-      some_in (Some y) x i = (y, refl)
+      record { life = m; alive = e; holds = elim (last_older c m e) [ inl d ↦ inl (k.last, d) | inr p ↦ inr (k.last, p.0, p.1) ] }
 
   not_itself : (c : ℕ) → Contains s.drops c → c ≡ b → ⊥
   not_itself c i e =
       let o = may.drops c i in
       let by : IsBy c (Owned b) = sym e in
-      h.waits.apart c o.life o.alive (subst (IsBy c) (sym o.status) by)
+      h.waits.apart c o.life o.alive (subst (IsBy c) (sym o.holds) by)
 
   queued_next : WaitsForOlder T next_lives
   unfolding next_lives
@@ -213,7 +200,7 @@ module _ (T : Types) (state : StoreState) (h : IsConsistent T state) (b : ℕ) (
           | inr new ↦
               let x = may.adds c u (subst (λ (x : BlockState). Contains x.adds (c, u)) (sym new.0) n) in
               older_type_next u t.entry (subst (λ (y : BlockState). IsOlderType state.lives u y.entry) new.0
-              (older_installed u (subst (λ y. IsTrue (T.installed y)) x.ty (h.linked c x.life x.alive).installed)))
+              (older_installed u (subst (λ y. IsTrue (T.installed y)) x.holds.0 (h.linked c x.life x.alive).installed)))
         ];
     drops = λ a m t c x y e i d f j. let r = each_back (accepted b s) state.lives a m e in let p = each_back (accepted b s) state.lives c x f in
         let y_in = pending_from c p.0 y (subst (λ (z : Life). Contains z.pending y) p.2 j) in
@@ -255,23 +242,21 @@ module _ (T : Types) (state : StoreState) (h : IsConsistent T state) (b : ℕ) (
   newest_same = ap newest (accepted_same b s b l refl) ∙ last_push l.durable l.pending s
 
   -- whose block it is
+  named_here : (c u : ℕ) → Contains (T.owned l.ty s.bytes) (c, u) → IsNamer T next_lives b c u
+  unfolding next_lives
+  named_here c u n = record {
+    life = accepted b s b l;
+    alive = each_forth (accepted b s) state.lives b l alive;
+    holds = subst (λ o. NamedIn T l.ty o (c, u)) (sym newest_same) n;
+  }
+
   namer_next : (a c u : ℕ) → (Contains s.drops c → a ≡ b → ⊥) → IsNamer T state.lives a c u → IsNamer T next_lives a c u
   unfolding next_lives
   namer_next a c u out o = elim (cases_eq a b) [
     | inl same ↦
-        let life : o.life ≡ l = same_life a o.life o.alive same in
-        let before : NamedIn T l.ty (newest l) (c, u) = subst (λ (x : Life). NamedIn T x.ty (newest x) (c, u)) life o.names in
-        let named : Contains (T.owned l.ty s.bytes) (c, u) = may.stays c u before (λ i. out i same) in
-        record {
-          life = accepted b s a l;
-          alive = each_forth (accepted b s) state.lives a l (ap (λ x. life_at state.lives x) same ∙ alive);
-          names = subst (λ x. NamedIn T l.ty (newest (accepted b s x l)) (c, u)) (sym same) (subst (λ o. NamedIn T l.ty o (c, u)) (sym newest_same) named);
-        }
-    | inr other ↦ record {
-      life = accepted b s a o.life;
-      alive = each_forth (accepted b s) state.lives a o.life o.alive;
-      names = subst (λ x. NamedIn T o.life.ty x (c, u)) (sym (newest_other a o.life other)) o.names;
-    }
+        let before = of_life o l (ap (life_at state.lives) same ∙ alive) in
+        subst (λ x. IsNamer T next_lives x c u) (sym same) (named_here c u (may.stays c u before (λ i. out i same)))
+    | inr other ↦ at_each (accepted b s) o (subst (λ x. NamedIn T o.life.ty x (c, u)) (sym (newest_other a o.life other)) o.holds)
   ]
 
   exact_next : HasExactStatuses T next_lives
@@ -285,14 +270,9 @@ module _ (T : Types) (state : StoreState) (h : IsConsistent T state) (b : ℕ) (
           | inl add ↦
               let p = blocks_of_at s.adds c add.0 in
               let x = may.adds c p.0 p.1 in
-              let life : x.life ≡ r.0 = same_Some x.life r.0 (sym x.alive ∙ r.1) in
               let owner : b ≡ a = same_owner b a (sym add.1 ∙ after) in
-              let named : Contains (T.owned l.ty s.bytes) (c, r.0.ty) = subst (λ t. Contains (T.owned l.ty s.bytes) (c, t)) (sym x.ty ∙ ap (λ (y : Life). y.ty) life) (may.added c p.0 p.1).0 in
-              subst (λ y. IsNamer T next_lives y c r.0.ty) owner (record {
-                life = accepted b s b l;
-                alive = each_forth (accepted b s) state.lives b l alive;
-                names = subst (λ o. NamedIn T l.ty o (c, r.0.ty)) (sym newest_same) named;
-              })
+              let named : Contains (T.owned l.ty s.bytes) (c, r.0.ty) = subst (λ t. Contains (T.owned l.ty s.bytes) (c, t)) (sym (of_life x r.0 r.1).0) (may.added c p.0 p.1).0 in
+              subst (λ y. IsNamer T next_lives y c r.0.ty) owner (named_here c r.0.ty named)
           | inr rest ↦ elim rest [
             | inl drop' ↦ absurd (owned_dropped a b (sym after ∙ drop'.1))
             | inr same ↦
@@ -313,7 +293,7 @@ module _ (T : Types) (state : StoreState) (h : IsConsistent T state) (b : ℕ) (
             | inr same ↦
                 let old : r.0.status ≡ Dropped a = sym same ∙ after in
                 h.statuses.emptied c r.0 a p r.1 old (subst (λ o. NamedIn T r.0.ty o p)
-                (newest_other c r.0 (dropped_other T state.lives b l s alive may h.lives_sound.root a c (record { life = r.0; alive = r.1; status = old }))) named)
+                (newest_other c r.0 (dropped_other T state.lives b l s alive may h.lives_sound.root a c (record { life = r.0; alive = r.1; holds = old }))) named)
           ]
         ];
   }
@@ -322,30 +302,16 @@ module _ (T : Types) (state : StoreState) (h : IsConsistent T state) (b : ℕ) (
 
   -- what is dropped owns nothing
   no_owner : (a c : ℕ) → IsOwnedBy state.lives a c → Contains s.drops a → ⊥
-  no_owner a c o i = let n = h.statuses.owned c o.life a o.alive o.status in may.empty a n.life (c, o.life.ty) i n.alive n.names
+  no_owner a c o i = let n = h.statuses.owned c o.life a o.alive o.holds in may.empty a n.life (c, o.life.ty) i n.alive n.holds
 
   -- a block that is not dropped keeps its owner
   owner_next : (a c : ℕ) → (Contains s.drops c → ⊥) → IsOwnedBy state.lives a c → IsOwnedBy next_lives a c × (Contains s.drops a → ⊥)
-  unfolding next_lives
-  owner_next a c out o = (
-    record {
-      life = accepted b s c o.life;
-      alive = each_forth (accepted b s) state.lives c o.life o.alive;
-      status = elim (status_cases b s c o.life.status) [
-        | inl add ↦ absurd (fresh_owned a (sym (added_fresh T state.lives b l s alive may h.lives_sound.root c o.life o.alive add.0) ∙ o.status))
-        | inr rest ↦ elim rest [ inl drop' ↦ absurd (out drop'.0) | inr same ↦ same ∙ o.status ]
-      ];
-    },
-    no_owner a c o,
-  )
+  unfolding next_lives now
+  owner_next a c out o = (owned_still T state.lives b l s alive may h.lives_sound.root a c out o, no_owner a c o)
 
   fresh_next : (c : ℕ) → (Contains (blocks_of s.adds) c → ⊥) → IsFreshBlock state.lives c → IsFreshBlock next_lives c
   unfolding next_lives
-  fresh_next c out f = record {
-    life = accepted b s c f.life;
-    alive = each_forth (accepted b s) state.lives c f.life f.alive;
-    status = fresh_after T state.lives b l s alive may h.lives_sound.root c f.life f.alive f.status out;
-  }
+  fresh_next c out f = at_each (accepted b s) f (fresh_after T state.lives b l s alive may h.lives_sound.root c f.life f.alive f.holds out)
 
   -- the block's own chain ends where it ended
   own_chain : HasChain next_lives b
@@ -372,7 +338,7 @@ module _ (T : Types) (state : StoreState) (h : IsConsistent T state) (b : ℕ) (
       let out : Contains s.drops c → ⊥ = λ i. elim (status_stays b s c r.0.status i) [
         | inl x ↦
             let d = may.drops c i in
-            fresh_owned b (sym (added_fresh T state.lives b l s alive may h.lives_sound.root c d.life d.alive x) ∙ d.status)
+            fresh_owned b (sym (added_fresh T state.lives b l s alive may h.lives_sound.root c d.life d.alive x) ∙ d.holds)
         | inr x ↦ false≢true (sym after ∙ ap is_dropped x)
       ] in
       let before : is_dropped r.0.status ≡ false = elim (status_cases b s c r.0.status) [

@@ -2,7 +2,6 @@
 use Rattle.std.proofs.Common.{◌≡◌, ℕ, ◌<◌, ◌≢◌, false, cond, [], ◌∷◌, ◌++◌, Option, Some, None, refl, sym, ◌∙◌, ap, inl, inr, arith, subst, append_assoc}
 use Rattle.std.specs.Prelude.{Contains, IsTrue, option_to_list, option_map}
 use Rattle.std.proofs.lemmas.Bool.{false≢true, ne_eqb, cond-true, cond-false, false_from_ne_true}
-use Rattle.std.proofs.lemmas.Option.{same_Some}
 use Rattle.std.proofs.lemmas.List.Elements.{Contains-push_cases}
 use Rattle.xn_model.specs.Lists.{has_number, blocks_of}
 use Rattle.xn_model.specs.Types.{Types, fits}
@@ -11,8 +10,8 @@ use Rattle.xn_model.specs.Rules.{IsBy, BelongsTo, IsInFileSystem, IsTemplate, Is
 use Rattle.xn_model.proofs.Changes.{accepted, accept, status_after, each}
 use Rattle.xn_model.proofs.Catalogue.{on_disk_each}
 use Rattle.xn_model.proofs.Lists.{Contains-none, Contains-cons, last_of, has_number_at, has_number_from, blocks_of_at, blocks_of_has}
-use Rattle.xn_model.proofs.Lives.{each_forth, length_revised}
-use Rattle.xn_model.proofs.Carry.{Carries, types_still}
+use Rattle.xn_model.proofs.Lives.{at_each, of_life, length_revised}
+use Rattle.xn_model.proofs.Carry.{Carries, types_still, held_still, kept_still}
 use Rattle.xn_model.proofs.Reached.{carried_pending}
 use Rattle.xn_model.proofs.States.{MayAccept, rises_push, last_push, start_push, grows_push, stays_push, stays_last, states_push, carried_still, count_more, with_state, with_status, status_cases, fresh_owned, same_owner, fresh_dropped, owned_dropped}
 
@@ -20,19 +19,12 @@ module _ (T : Types) (lives : Lives) (b : ℕ) (l : Life) (s : BlockState) (aliv
   unfoldable pub now : Lives
   now = accept b s lives
 
-  -- two views of one life
-  one : (c : ℕ) (x y : Life) → life_at lives c ≡ Some x → life_at lives c ≡ Some y → x ≡ y
-  one c x y e f = same_Some x y (sym e ∙ f)
-
   -- an added block was fresh, a dropped one owned
   pub added_fresh : (c : ℕ) (x : Life) → life_at lives c ≡ Some x → Contains (blocks_of s.adds) c → x.status ≡ Fresh
-  added_fresh c x e i =
-      let p = blocks_of_at s.adds c i in
-      let a = may.adds c p.0 p.1 in
-      ap (λ (y : Life). y.status) (one c x a.life e a.alive) ∙ a.fresh
+  added_fresh c x e i = let p = blocks_of_at s.adds c i in (of_life (may.adds c p.0 p.1) x e).1
 
   dropped_owned : (c : ℕ) (x : Life) → life_at lives c ≡ Some x → Contains s.drops c → x.status ≡ Owned b
-  dropped_owned c x e i = let d = may.drops c i in ap (λ (y : Life). y.status) (one c x d.life e d.alive) ∙ d.status
+  dropped_owned c x e i = of_life (may.drops c i) x e
 
   by_after : (a c : ℕ) (x : Life) → life_at lives c ≡ Some x → IsBy a x.status → IsBy a (status_after b s c x.status)
   by_after a c x e by = elim (status_cases b s c x.status) [
@@ -67,113 +59,70 @@ module _ (T : Types) (lives : Lives) (b : ℕ) (l : Life) (s : BlockState) (aliv
 
   pub template_other : (c : ℕ) → IsTemplate T lives c → c ≡ b → ⊥
   template_other c t e =
-      let same : t.life ≡ l = one b t.life l (ap (life_at lives) (sym e) ∙ t.alive) alive in
-      let zero' : b ≡ 0 = may.editable (ap (λ (y : Life). y.fs) (sym same) ∙ t.nobody) in
-      let is_root : t.life ≡ root.life = one 0 t.life root.life (ap (life_at lives) (sym (e ∙ zero')) ∙ t.alive) root.alive in
-      let clash : 1 ≡ root.life.ty = sym t.ty ∙ ap (λ (y : Life). y.ty) is_root in
+      let zero' : c ≡ 0 = e ∙ may.editable (of_life t l (ap (life_at lives) e ∙ alive)).0 in
+      let one : root.life.ty ≡ 1 = (of_life t root.life (ap (life_at lives) zero' ∙ root.alive)).1 in
       let none : root.life.ty ≡ 0 = root.ty in
       absurd (omega arith)
 
   pub dropped_other : (a c : ℕ) → IsDroppedBy lives a c → c ≡ b → ⊥
-  dropped_other a c d e =
-      let same : d.life ≡ l = one b d.life l (ap (life_at lives) (sym e) ∙ d.alive) alive in
-      let status : l.status ≡ Dropped a = ap (λ (y : Life). y.status) (sym same) ∙ d.status in
-      false≢true (sym may.in_use ∙ ap is_dropped status)
+  dropped_other a c d e = false≢true (sym may.in_use ∙ ap is_dropped (of_life d l (ap (life_at lives) e ∙ alive)))
 
   pub carries : Carries T lives now
   unfolding now
   carries = record {
     count = length_revised (λ c o. option_map (accepted b s c) o) lives;
-    belongs = λ a c u r. record { life = accepted b s c r.life; alive = each_forth (accepted b s) lives c r.life r.alive; ty = r.ty; by = by_after a c r.life r.alive r.by };
-    system = λ fs c r. record { life = accepted b s c r.life; alive = each_forth (accepted b s) lives c r.life r.alive; same = r.same };
-    disk = λ c r. record { life = accepted b s c r.life; alive = each_forth (accepted b s) lives c r.life r.alive; state = r.state; durable = r.durable };
-    template = λ c r. record { life = accepted b s c r.life; alive = each_forth (accepted b s) lives c r.life r.alive; nobody = r.nobody; ty = r.ty; state = r.state; only = ap (λ xs. option_to_list r.life.durable ++ xs) (pending_other c r.life (template_other c r)) ∙ r.only; bytes = r.bytes };
-    dropped = λ a c r. record { life = accepted b s c r.life; alive = each_forth (accepted b s) lives c r.life r.alive; status = dropped_after a c r.life r.alive r.status };
-    resting = λ a c d r. record { life = accepted b s c r.life; alive = each_forth (accepted b s) lives c r.life r.alive; nothing = pending_other c r.life (dropped_other a c d) ∙ r.nothing };
+    belongs = λ a c u r. at_each (accepted b s) r (r.holds.0, by_after a c r.life r.alive r.holds.1);
+    system = λ fs c r. at_each (accepted b s) r r.holds;
+    disk = λ c r. at_each (accepted b s) r r.holds;
+    template = λ c r. at_each (accepted b s) r
+        (r.holds.0, r.holds.1, r.holds.2, ap (λ xs. option_to_list r.life.durable ++ xs) (pending_other c r.life (template_other c r)) ∙ r.holds.3, r.holds.4);
+    dropped = λ a c r. at_each (accepted b s) r (dropped_after a c r.life r.alive r.holds);
+    resting = λ a c d r. at_each (accepted b s) r (pending_other c r.life (dropped_other a c d) ∙ r.holds);
     types = types_still lives (each (accepted b s) lives) (on_disk_each (accepted b s) lives (λ x. refl));
   }
 
   -- the targets
+  added_status : (c u : ℕ) → Contains s.adds (c, u) → (st : Status) → status_after b s c st ≡ Owned b
+  added_status c u i st = cond-true (has_number (blocks_of s.adds) c) (Owned b) (cond (has_number s.drops c) (Dropped b) st)
+      (has_number_from (blocks_of s.adds) c (blocks_of_has s.adds (c, u) i))
+
   adds_after : (c u : ℕ) → Contains s.adds (c, u) → BelongsTo now b c u
   unfolding now
   adds_after c u i =
       let a = may.adds c u i in
-      let is : status_after b s c a.life.status ≡ Owned b = cond-true (has_number (blocks_of s.adds) c) (Owned b) (cond (has_number s.drops c) (Dropped b) a.life.status) (has_number_from (blocks_of s.adds) c (blocks_of_has s.adds (c, u) i)) in
       let by : IsBy b (Owned b) = refl in
-      record { life = accepted b s c a.life; alive = each_forth (accepted b s) lives c a.life a.alive; ty = a.ty; by = subst (IsBy b) (sym is) by }
+      at_each (accepted b s) a (a.holds.0, subst (IsBy b) (sym (added_status c u i a.life.status)) by)
+
+  pub owned_added : (c u : ℕ) → Contains s.adds (c, u) → IsOwnedBy now b c
+  unfolding now
+  owned_added c u i = at_each (accepted b s) (may.adds c u i) (added_status c u i (may.adds c u i).life.status)
 
   drops_after : (c : ℕ) → Contains s.drops c → IsDroppedBy now b c
   unfolding now
   drops_after c i =
       let d = may.drops c i in
-      let not_added : has_number (blocks_of s.adds) c ≡ false = false_from_ne_true (has_number (blocks_of s.adds) c) (λ t. fresh_owned b (sym (added_fresh c d.life d.alive (has_number_at (blocks_of s.adds) c t)) ∙ d.status)) in
-      let is : status_after b s c d.life.status ≡ Dropped b =
-      cond-false (has_number (blocks_of s.adds) c) (Owned b) (cond (has_number s.drops c) (Dropped b) d.life.status) not_added
-      ∙ cond-true (has_number s.drops c) (Dropped b) d.life.status (has_number_from s.drops c i) in
-      record { life = accepted b s c d.life; alive = each_forth (accepted b s) lives c d.life d.alive; status = is }
+      let not_added : has_number (blocks_of s.adds) c ≡ false = false_from_ne_true (has_number (blocks_of s.adds) c) (λ t. fresh_owned b (sym (added_fresh c d.life d.alive (has_number_at (blocks_of s.adds) c t)) ∙ d.holds)) in
+      at_each (accepted b s) d (cond-false (has_number (blocks_of s.adds) c) (Owned b) (cond (has_number s.drops c) (Dropped b) d.life.status) not_added
+      ∙ cond-true (has_number s.drops c) (Dropped b) d.life.status (has_number_from s.drops c i))
+
+  -- what a block owns it owns unless it is dropped
+  pub owned_still : (a c : ℕ) → (Contains s.drops c → ⊥) → IsOwnedBy lives a c → IsOwnedBy now a c
+  unfolding now
+  owned_still a c out r = at_each (accepted b s) r (elim (status_cases b s c r.life.status) [
+    | inl add ↦ absurd (fresh_owned a (sym (added_fresh c r.life r.alive add.0) ∙ r.holds))
+    | inr rest ↦ elim rest [ inl drop' ↦ absurd (out drop'.0) | inr same ↦ same ∙ r.holds ]
+  ])
+
+  -- and that is dropped by this block alone
+  owned_other : (a : ℕ) → (a ≡ b → ⊥) → (c : ℕ) → IsOwnedBy lives a c → IsOwnedBy now a c
+  owned_other a ne c r = owned_still a c (λ i. ne (same_owner a b (sym r.holds ∙ dropped_owned c r.life r.alive i))) r
 
   -- A life that accepts nothing
   pub held_other : (c : ℕ) (m : Life) (st : Status) → IsSoundLife T lives c m → IsSoundLife T now c (with_status st m)
-  held_other c m st h = record {
-    fit = h.fit;
-    named = λ r x u i n. carries.belongs c x u (h.named r x u i n);
-    same_system = λ r x u ne i n. carries.system m.fs x (h.same_system r x u ne i n);
-    ready = λ r x u i n. carries.disk x (h.ready r x u i n);
-    typed = λ r x u ne i n. carries.types u (h.typed r x u ne i n);
-    rising = h.rising;
-  }
-
-  -- what another block owns it goes on owning
-  owned_other : (a : ℕ) → (a ≡ b → ⊥) → (c : ℕ) → IsOwnedBy lives a c → IsOwnedBy now a c
-  unfolding now
-  owned_other a ne c r = record {
-    life = accepted b s c r.life;
-    alive = each_forth (accepted b s) lives c r.life r.alive;
-    status = elim (status_cases b s c r.life.status) [
-      | inl add ↦ absurd (fresh_owned a (sym (added_fresh c r.life r.alive add.0) ∙ r.status))
-      | inr rest ↦ elim rest [
-        | inl drop' ↦ absurd (ne (same_owner a b (sym r.status ∙ dropped_owned c r.life r.alive drop'.0)))
-        | inr same ↦ same ∙ r.status
-      ]
-    ];
-  }
-
-  -- what this block owns it owns unless it is dropped
-  owned_still : (c : ℕ) → (Contains s.drops c → ⊥) → IsOwnedBy lives b c → IsOwnedBy now b c
-  unfolding now
-  owned_still c out r = record {
-    life = accepted b s c r.life;
-    alive = each_forth (accepted b s) lives c r.life r.alive;
-    status = elim (status_cases b s c r.life.status) [
-      | inl add ↦ add.1
-      | inr rest ↦ elim rest [ inl drop' ↦ absurd (out drop'.0) | inr same ↦ same ∙ r.status ]
-    ];
-  }
-
-  pub owned_added : (c u : ℕ) → Contains s.adds (c, u) → IsOwnedBy now b c
-  unfolding now
-  owned_added c u i =
-      let a = may.adds c u i in
-      record {
-        life = accepted b s c a.life;
-        alive = each_forth (accepted b s) lives c a.life a.alive;
-        status = cond-true (has_number (blocks_of s.adds) c) (Owned b) (cond (has_number s.drops c) (Dropped b) a.life.status) (has_number_from (blocks_of s.adds) c (blocks_of_has s.adds (c, u) i));
-      }
+  held_other c m st h = held_still T lives now c m st carries h
 
   pub kept_other : (c : ℕ) (m : Life) (st : Status) → (c ≡ b → ⊥) → IsLinkedLife T lives c m → IsLinkedLife T now c (with_status st m)
-  kept_other c m st ne h = record {
-    last = h.last;
-    is_last = h.is_last;
-    owned = λ x u n. owned_other c ne x (h.owned x u n);
-    installed = h.installed;
-    root_alone = h.root_alone;
-    start = h.start;
-    grows = h.grows;
-    dropped = λ r x i n. carries.dropped c x (h.dropped r x i n);
-    gone = h.gone;
-    flight = h.flight;
-    resting = λ r x i n. carries.resting c x (h.dropped r x (carried_pending m r i) n) (h.resting r x i n);
-  }
+  kept_other c m st ne h = kept_still T lives now c m st carries (owned_other c ne) (carried_pending m) h
 
   module _ (held : IsSoundLife T lives b l) (linked : IsLinkedLife T lives b l) (latest : (t : BlockState) → Contains (states l) t → t.entry < s.entry) where
     named_in_newest : (o : Option BlockState) → newest l ≡ o → (c u : ℕ) → NamedIn T l.ty o (c, u) → BelongsTo lives b c u
@@ -214,12 +163,12 @@ module _ (T : Types) (lives : Lives) (b : ℕ) (l : Life) (s : BlockState) (aliv
           λ t u j n. elim (Contains-cons s [] t j) [
             | inl e ↦ elim (may.names c u (rw e n)) [
               | inl before ↦ stays_last T l.ty l.durable l.pending r c u linked.gone i m before.0
-              | inr add ↦ let a = may.adds c u add in fresh_dropped b (sym a.fresh ∙ (ap (λ (y : Life). y.status) (one c a.life d.life a.alive d.alive) ∙ d.status))
+              | inr add ↦ fresh_dropped b (sym (of_life (may.adds c u add) d.life d.alive).1 ∙ d.holds)
             ]
             | inr none ↦ Contains-none t none
           ],
           λ t j n. elim (Contains-cons s [] t j) [
-            | inl e ↦ owned_dropped b b (sym (dropped_owned c d.life d.alive (rw e n)) ∙ d.status)
+            | inl e ↦ owned_dropped b b (sym (dropped_owned c d.life d.alive (rw e n)) ∙ d.holds)
             | inr none ↦ Contains-none t none
           ],
         )
@@ -228,7 +177,7 @@ module _ (T : Types) (lives : Lives) (b : ℕ) (l : Life) (s : BlockState) (aliv
     drops_unnamed c m = λ t u j n. elim (Contains-cons s [] t j) [
       | inl e ↦ elim (may.names c u (rw e n)) [
         | inl before ↦ before.1 m
-        | inr add ↦ let a = may.adds c u add in fresh_owned b (sym a.fresh ∙ dropped_owned c a.life a.alive m)
+        | inr add ↦ let a = may.adds c u add in fresh_owned b (sym a.holds.1 ∙ dropped_owned c a.life a.alive m)
       ]
       | inr none ↦ Contains-none t none
     ]
@@ -238,7 +187,7 @@ module _ (T : Types) (lives : Lives) (b : ℕ) (l : Life) (s : BlockState) (aliv
       last = s;
       is_last = last_push l.durable l.pending s;
       owned = λ c u n. elim (may.names c u (subst (λ o. NamedIn T l.ty o (c, u)) (last_push l.durable l.pending s) n)) [
-        | inl before ↦ owned_still c before.1 (linked.owned c u before.0)
+        | inl before ↦ owned_still b c before.1 (linked.owned c u before.0)
         | inr add ↦ owned_added c u add
       ];
       installed = linked.installed;

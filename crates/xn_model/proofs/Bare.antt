@@ -5,11 +5,11 @@ use Rattle.std.specs.List.{last_or}
 use Rattle.std.proofs.lemmas.List.Elements.{Contains-append_right}
 use Rattle.xn_model.specs.Types.{Types}
 use Rattle.xn_model.specs.Images.{IsDiskSize}
-use Rattle.xn_model.specs.Lives.{BlockState, Life, Lives, StoreState, life_at, states, carried, newest, on_disk, durable_after, bytes_of, root_on_disk}
+use Rattle.xn_model.specs.Lives.{BlockState, Life, Lives, StoreState, states, carried, newest, on_disk, durable_after, bytes_of, root_on_disk}
 use Rattle.xn_model.specs.Rules.{IsSoundLife, IsLinkedLife, IsHeldOnDisk, ArePlaced, IsConsistent, NamedIn, StartsPlain, Grows, Rises, HasExactStatuses, IsNamer, IsRootLife, IsOlderType, PointersStay}
 use Rattle.xn_model.proofs.Changes.{each, bared}
 use Rattle.xn_model.proofs.Lists.{Contains-head, Contains-cons}
-use Rattle.xn_model.proofs.Lives.{each_forth, each_back, length_revised}
+use Rattle.xn_model.proofs.Lives.{each_forth, each_back, at_each, length_revised}
 use Rattle.xn_model.proofs.Carry.{Carries, types_still}
 use Rattle.xn_model.proofs.Catalogue.{on_disk_each}
 use Rattle.xn_model.proofs.Languages.{latest_each}
@@ -18,6 +18,7 @@ use Rattle.std.proofs.lemmas.Option.{same_Some}
 use Rattle.xn_model.proofs.Chains.{chains_each}
 use Rattle.xn_model.proofs.Orders.{ordered_bare}
 use Rattle.xn_model.proofs.Queue.{Shrinks, queued_each}
+use Rattle.xn_model.proofs.Reached.{carried_pending}
 
 -- a state with these bytes
 abbrev SameBytes : List BlockState → BlockState → Type 0
@@ -127,19 +128,16 @@ module _ (T : Types) (state : StoreState) (h : IsConsistent T state) (b : ℕ) w
   abbrev now : Lives
   now = each (bared b) state.lives
 
-  forth : (c : ℕ) (l : Life) → life_at state.lives c ≡ Some l → life_at now c ≡ Some (bared b c l)
-  forth c l e = each_forth (bared b) state.lives c l e
-
   carries : Carries T state.lives now
   carries = record {
     count = length_revised (λ c o. option_map (bared b c) o) state.lives;
-    belongs = λ a c u r. record { life = bared b c r.life; alive = forth c r.life r.alive; ty = r.ty; by = r.by };
-    system = λ fs c r. record { life = bared b c r.life; alive = forth c r.life r.alive; same = r.same };
-    disk = λ c r. let d = bare_some (c == b) r.life.durable r.state r.durable in record { life = bared b c r.life; alive = forth c r.life r.alive; state = d.0; durable = d.1 };
-    template = λ c r. let d = bare_only (c == b) r.life.durable r.life.pending r.state r.only in
-        record { life = bared b c r.life; alive = forth c r.life r.alive; nobody = r.nobody; ty = r.ty; state = d.0; only = d.1; bytes = rw d.2 r.bytes };
-    dropped = λ a c r. record { life = bared b c r.life; alive = forth c r.life r.alive; status = r.status };
-    resting = λ a c d r. record { life = bared b c r.life; alive = forth c r.life r.alive; nothing = r.nothing };
+    belongs = λ a c u r. at_each (bared b) r r.holds;
+    system = λ fs c r. at_each (bared b) r r.holds;
+    disk = λ c r. at_each (bared b) r (let d = bare_some (c == b) r.life.durable r.holds.0 r.holds.1 in (d.0, d.1));
+    template = λ c r. at_each (bared b) r
+        (let d = bare_only (c == b) r.life.durable r.life.pending r.holds.2 r.holds.3 in (r.holds.0, r.holds.1, d.0, d.1, rw d.2 r.holds.4));
+    dropped = λ a c r. at_each (bared b) r r.holds;
+    resting = λ a c d r. at_each (bared b) r r.holds;
     types = types_still state.lives now (on_disk_each (bared b) state.lives (λ l. bare_bytes (0 == b) l.durable));
   }
 
@@ -159,7 +157,7 @@ module _ (T : Types) (state : StoreState) (h : IsConsistent T state) (b : ℕ) w
       record {
         last = last.0;
         is_last = last.1;
-        owned = λ x u n. let r = k.owned x u (named_if T l.ty (c == b) l.durable l.pending (x, u) n) in record { life = bared b x r.life; alive = forth x r.life r.alive; status = r.status };
+        owned = λ x u n. let r = k.owned x u (named_if T l.ty (c == b) l.durable l.pending (x, u) n) in at_each (bared b) r r.holds;
         installed = k.installed;
         root_alone = k.root_alone;
         start = bare_start (c == b) l.durable l.pending k.start;
@@ -167,7 +165,7 @@ module _ (T : Types) (state : StoreState) (h : IsConsistent T state) (b : ℕ) w
         dropped = λ s x i n. carries.dropped c x (k.dropped s x i n);
         gone = k.gone;
         flight = k.flight;
-        resting = λ s x i n. let r = k.resting s x i n in record { life = bared b x r.life; alive = forth x r.life r.alive; nothing = r.nothing };
+        resting = λ s x i n. carries.resting c x (k.dropped s x (carried_pending l s i) n) (k.resting s x i n);
       }
 
   root_bare : IsRootLife T now
@@ -176,7 +174,7 @@ module _ (T : Types) (state : StoreState) (h : IsConsistent T state) (b : ℕ) w
       let d = bare_some (0 == b) r.life.durable r.state r.durable in
       record {
         life = bared b 0 r.life;
-        alive = forth 0 r.life r.alive;
+        alive = each_forth (bared b) state.lives 0 r.life r.alive;
         ty = r.ty;
         nobody = r.nobody;
         unowned = r.unowned;
@@ -195,14 +193,7 @@ module _ (T : Types) (state : StoreState) (h : IsConsistent T state) (b : ℕ) w
   bare_shrinks c l = record { ty = refl; status = refl; fewer = λ t i. i; stored = λ s e. let d = bare_some (c == b) l.durable s e in (d.0, d.1); leaves = λ t i. inr i }
 
   bare_older : (u n : ℕ) → IsOlderType state.lives u n → IsOlderType now u n
-  bare_older u n o = record {
-    life = bared b 0 o.life;
-    alive = forth 0 o.life o.alive;
-    older = elim o.older [
-      | inl d ↦ let r = bare_some (0 == b) o.life.durable d.0 d.1 in inl (r.0, r.1, rw r.2 d.2)
-      | inr t ↦ inr t
-    ];
-  }
+  bare_older u n o = at_each (bared b) o (elim o.holds [ inl d ↦ let r = bare_some (0 == b) o.life.durable d.0 d.1 in inl (r.0, r.1, rw r.2 d.2) | inr t ↦ inr t ])
 
   exact_bare : HasExactStatuses T now
   exact_bare = record {
@@ -210,7 +201,7 @@ module _ (T : Types) (state : StoreState) (h : IsConsistent T state) (b : ℕ) w
         let r = each_back (bared b) state.lives c m e in
         let o = h.statuses.owned c r.0 a r.1 (ap (λ (x : Life). x.status) (sym r.2) ∙ s) in
         let ty : r.0.ty ≡ m.ty = ap (λ (x : Life). x.ty) (sym r.2) in
-        subst (λ u. IsNamer T now a c u) ty (record { life = bared b a o.life; alive = forth a o.life o.alive; names = if_named T o.life.ty (a == b) o.life.durable o.life.pending (c, r.0.ty) o.names });
+        subst (λ u. IsNamer T now a c u) ty (at_each (bared b) o (if_named T o.life.ty (a == b) o.life.durable o.life.pending (c, r.0.ty) o.holds));
     emptied = λ c m a p e s n.
         let r = each_back (bared b) state.lives c m e in
         let named : NamedIn T r.0.ty (newest (bared b c r.0)) p = subst (λ (x : Life). NamedIn T x.ty (newest x) p) r.2 n in

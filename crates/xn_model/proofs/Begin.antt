@@ -11,10 +11,10 @@ use Rattle.xn_model.specs.Root.{has_type}
 use Rattle.xn_model.specs.Images.{IsDiskSize}
 use Rattle.xn_model.specs.Results.{NoSuchBlock, NotInUse, InFlight, NothingSafe}
 use Rattle.xn_model.specs.Calls.{begun_of, begun_place, bytes_at, types_of, latest}
-use Rattle.xn_model.specs.Rules.{Keeps, ArePlaced, IsOnDisk, IsRootLife, IsSoundLife, IsLinkedLife, IsHeldOnDisk, IsConsistent, NamedIn, IsCount, IsOwnedBy}
+use Rattle.xn_model.specs.Rules.{Keeps, ArePlaced, IsAtRest, IsOnDisk, IsRootLife, IsSoundLife, IsLinkedLife, IsHeldOnDisk, IsConsistent, NamedIn, IsCount, IsOwnedBy}
 use Rattle.xn_model.proofs.Changes.{each, with_begun}
 use Rattle.xn_model.proofs.Lists.{Contains-none, Contains-take, last_is_in}
-use Rattle.xn_model.proofs.Lives.{each_forth, each_back, length_revised, begun_is, life_from}
+use Rattle.xn_model.proofs.Lives.{each_forth, each_back, of_root, length_revised, begun_is, life_from}
 use Rattle.xn_model.proofs.Catalogue.{on_disk_each}
 use Rattle.xn_model.proofs.Carry.{Carries, types_still, held_still, kept_still, root_still, carries_begun, owned_begun, with_begun_other, with_begun_same, begun_if}
 use Rattle.xn_model.proofs.Chains.{chains_each}
@@ -30,7 +30,7 @@ pub record MayCarry (T : Types) (lives : Lives) (l : Life) (k : Option ℕ) : Ty
   pub count : IsCount k (length l.pending)
   pub ready : (s : BlockState) (c u : ℕ) → Contains (first_states k l.pending) s → Contains (T.owned l.ty s.bytes) (c, u) → IsOnDisk lives c
   pub typed : (s : BlockState) (c u : ℕ) → (l.ty ≡ 0 → ⊥) → Contains (first_states k l.pending) s → Contains (T.owned l.ty s.bytes) (c, u) → has_type (root_on_disk lives) u ≡ true
-  pub resting : (s : BlockState) (c : ℕ) → Contains (first_states k l.pending) s → Contains s.drops c → (r : Life) × (life_at lives c ≡ Some r) × (r.pending ≡ [])
+  pub resting : (s : BlockState) (c : ℕ) → Contains (first_states k l.pending) s → Contains s.drops c → IsAtRest lives c
   pub pending : (s : BlockState) → Contains (first_states k l.pending) s → Contains l.pending s
 
 -- A life with such a write
@@ -62,7 +62,7 @@ kept_begun T old new b l k c own may h = record {
   dropped = λ s x m n. c.dropped b x (h.dropped s x m n);
   gone = h.gone;
   flight = may.count;
-  resting = λ s x m n. let r = may.resting s x m n in c.resting b x (h.dropped s x (may.pending s m) n) (record { life = r.0; alive = r.1; nothing = r.2 });
+  resting = λ s x m n. c.resting b x (h.dropped s x (may.pending s m) n) (may.resting s x m n);
 }
 
 module _ (T : Types) (state : StoreState) (h : IsConsistent T state) (b : ℕ) (l : Life) (alive : life_at state.lives b ≡ Some l) (k : Option ℕ) (may : MayCarry T state.lives l k) where
@@ -84,7 +84,7 @@ module _ (T : Types) (state : StoreState) (h : IsConsistent T state) (b : ℕ) (
   held_at c m e = elim (cases_eq c b) [
     | inl same ↦ subst (IsSoundLife T now c) (sym (with_begun_same b k c m same))
         (held_begun T state.lives now c m k (λ ne z. ne ((h.linked c m e).root_alone z)) (carries_begun T b k state.lives) (subst (λ x. MayCarry T state.lives x k) (same_life c m e same) may) (h.lives_sound.each c m e))
-    | inr other ↦ subst (IsSoundLife T now c) (sym (with_begun_other b k c m other)) (held_still T state.lives now c m (carries_begun T b k state.lives) (h.lives_sound.each c m e))
+    | inr other ↦ subst (IsSoundLife T now c) (sym (with_begun_other b k c m other)) (held_still T state.lives now c m m.status (carries_begun T b k state.lives) (h.lives_sound.each c m e))
   ]
 
   kept_at : (c : ℕ) (m : Life) → life_at state.lives c ≡ Some m → IsLinkedLife T now c (with_begun b k c m)
@@ -92,7 +92,7 @@ module _ (T : Types) (state : StoreState) (h : IsConsistent T state) (b : ℕ) (
   kept_at c m e = elim (cases_eq c b) [
     | inl same ↦ subst (IsLinkedLife T now c) (sym (with_begun_same b k c m same))
         (kept_begun T state.lives now c m k (carries_begun T b k state.lives) (owned_begun b k state.lives c) (subst (λ x. MayCarry T state.lives x k) (same_life c m e same) may) (h.linked c m e))
-    | inr other ↦ subst (IsLinkedLife T now c) (sym (with_begun_other b k c m other)) (kept_still T state.lives now c m (carries_begun T b k state.lives) (owned_begun b k state.lives c) (carried_pending m) (h.linked c m e))
+    | inr other ↦ subst (IsLinkedLife T now c) (sym (with_begun_other b k c m other)) (kept_still T state.lives now c m m.status (carries_begun T b k state.lives) (owned_begun b k state.lives c) (carried_pending m) (h.linked c m e))
   ]
 
   pub carries_places : (content : ℕ → List ℕ) → ArePlaced content state.lives → ((s : BlockState) → l.durable ≡ Some s → content b ≡ s.bytes) → ArePlaced content (each (with_begun b k) state.lives)
@@ -128,7 +128,7 @@ may_begin T lives b l root_type h k some = record {
   count = (some, safe_count_within lives l.ty [] l.pending);
   ready = prefix_ready T lives l.ty l.durable [] l.pending k.grows (λ c u n. from_durable l.durable refl c u n);
   typed = λ s c u ne m n. prefix_typed T lives l.ty l.durable [] l.pending ne k.grows (λ c u n. types_durable (λ z. ne (root_type z)) l.durable refl c u n) s c u m n;
-  resting = λ s c m n. let r = prefix_safe lives l.ty [] l.pending s m in let d = safe_drops lives l.ty r.0 s c r.1 n in (d.life, d.alive, d.nothing);
+  resting = λ s c m n. let r = prefix_safe lives l.ty [] l.pending s m in safe_drops lives l.ty r.0 s c r.1 n;
   pending = λ s m. Contains-take (safe_count lives l.ty [] l.pending) l.pending s m;
 }
   where
@@ -181,9 +181,7 @@ begun_from T state b (Some (Some l)) given at e =
 
 -- block 0 is of type 0
 root_typed : (T : Types) (state : StoreState) → IsConsistent T state → (b : ℕ) (l : Life) → life_at state.lives b ≡ Some l → b ≡ 0 → l.ty ≡ 0
-root_typed T state h b l e z =
-    let r = h.lives_sound.root in
-    ap (λ (x : Life). x.ty) (same_Some l r.life (sym e ∙ (ap (life_at state.lives) z ∙ r.alive))) ∙ r.ty
+root_typed T state h b l e z = (of_root h.lives_sound.root l (ap (life_at state.lives) (sym z) ∙ e)).0
 
 pub begun_keeps : (T : Types) (state : StoreState) → IsConsistent T state → (b : ℕ) (given : List ℕ × ℕ) (new : StoreState) → begun_of state b ≡ Ok (given, new) → Keeps T state new
 begun_keeps T state h b given new e =

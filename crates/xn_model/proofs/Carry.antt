@@ -7,11 +7,11 @@ use Rattle.std.proofs.lemmas.Option.{same_Some}
 use Rattle.std.proofs.lemmas.List.Elements.{Contains-append_left, Contains-append_right}
 use Rattle.xn_model.specs.Types.{Types}
 use Rattle.xn_model.specs.Root.{has_type}
-use Rattle.xn_model.specs.Lives.{BlockState, Fresh, Life, Lives, life_at, states, carried, newest, root_on_disk}
+use Rattle.xn_model.specs.Lives.{BlockState, Status, Fresh, Life, with_status, Lives, life_at, states, carried, newest, root_on_disk}
 use Rattle.xn_model.specs.Rules.{BelongsTo, IsInFileSystem, IsOnDisk, IsTemplate, IsDroppedBy, IsAtRest, IsOwnedBy, IsRootLife, IsSoundLife, IsLinkedLife, PointersStay, Rises, StartsPlain, Grows, StaysDropped, NoneNames, NoneDrops}
 use Rattle.xn_model.proofs.Changes.{each, with_begun, settled}
 use Rattle.xn_model.proofs.Lists.{Contains-head, Contains-cons, Contains-none, Contains-drop}
-use Rattle.xn_model.proofs.Lives.{each_forth, length_revised}
+use Rattle.xn_model.proofs.Lives.{each_forth, at_each, length_revised}
 use Rattle.xn_model.proofs.Catalogue.{has_keeps, pointers_last, pointers_settled, pointers_taken, on_disk_is, on_disk_each}
 
 pub record Carries (T : Types) (old new : Lives) : Type 0 where
@@ -28,9 +28,9 @@ pub record Carries (T : Types) (old new : Lives) : Type 0 where
 pub types_still : (old new : Lives) → root_on_disk new ≡ root_on_disk old → (u : ℕ) → IsTrue (has_type (root_on_disk old) u) → IsTrue (has_type (root_on_disk new) u)
 types_still old new e u h = subst (λ m. IsTrue (has_type m u)) (sym e) h
 
--- A life that stays as it is
-pub held_still : (T : Types) (old new : Lives) (b : ℕ) (l : Life) → Carries T old new → IsSoundLife T old b l → IsSoundLife T new b l
-held_still T old new b l c h = record {
+-- A life that stays as it is, but for its status
+pub held_still : (T : Types) (old new : Lives) (b : ℕ) (l : Life) (st : Status) → Carries T old new → IsSoundLife T old b l → IsSoundLife T new b (with_status st l)
+held_still T old new b l st c h = record {
   fit = h.fit;
   named = λ s x u m n. c.belongs b x u (h.named s x u m n);
   same_system = λ s x u ne m n. c.system l.fs x (h.same_system s x u ne m n);
@@ -39,8 +39,9 @@ held_still T old new b l c h = record {
   rising = h.rising;
 }
 
-pub kept_still : (T : Types) (old new : Lives) (b : ℕ) (l : Life) → Carries T old new → ((c : ℕ) → IsOwnedBy old b c → IsOwnedBy new b c) → ((s : BlockState) → Contains (carried l) s → Contains l.pending s) → IsLinkedLife T old b l → IsLinkedLife T new b l
-kept_still T old new b l c own in' k = record {
+pub kept_still : (T : Types) (old new : Lives) (b : ℕ) (l : Life) (st : Status) → Carries T old new → ((c : ℕ) → IsOwnedBy old b c → IsOwnedBy new b c) →
+    ((s : BlockState) → Contains (carried l) s → Contains l.pending s) → IsLinkedLife T old b l → IsLinkedLife T new b (with_status st l)
+kept_still T old new b l st c own in' k = record {
   last = k.last;
   is_last = k.is_last;
   owned = λ x u n. own x (k.owned x u n);
@@ -87,17 +88,17 @@ pub with_begun_same : (b : ℕ) (k : Option ℕ) (c : ℕ) (l : Life) → c ≡ 
 with_begun_same b k c l e = ap (λ t. begun_if t k l) (eq-eqb c b e)
 
 pub owned_begun : (b : ℕ) (k : Option ℕ) (lives : Lives) (a c : ℕ) → IsOwnedBy lives a c → IsOwnedBy (each (with_begun b k) lives) a c
-owned_begun b k lives a c r = record { life = with_begun b k c r.life; alive = each_forth (with_begun b k) lives c r.life r.alive; status = r.status }
+owned_begun b k lives a c r = at_each (with_begun b k) r r.holds
 
 pub carries_begun : (T : Types) (b : ℕ) (k : Option ℕ) (lives : Lives) → Carries T lives (each (with_begun b k) lives)
 carries_begun T b k lives = record {
   count = length_revised (λ c o. option_map (with_begun b k c) o) lives;
-  belongs = λ a c u r. record { life = with_begun b k c r.life; alive = each_forth (with_begun b k) lives c r.life r.alive; ty = r.ty; by = r.by };
-  system = λ fs c r. record { life = with_begun b k c r.life; alive = each_forth (with_begun b k) lives c r.life r.alive; same = r.same };
-  disk = λ c r. record { life = with_begun b k c r.life; alive = each_forth (with_begun b k) lives c r.life r.alive; state = r.state; durable = r.durable };
-  template = λ c r. record { life = with_begun b k c r.life; alive = each_forth (with_begun b k) lives c r.life r.alive; nobody = r.nobody; ty = r.ty; state = r.state; only = r.only; bytes = r.bytes };
-  dropped = λ a c r. record { life = with_begun b k c r.life; alive = each_forth (with_begun b k) lives c r.life r.alive; status = r.status };
-  resting = λ a c d r. record { life = with_begun b k c r.life; alive = each_forth (with_begun b k) lives c r.life r.alive; nothing = r.nothing };
+  belongs = λ a c u r. at_each (with_begun b k) r r.holds;
+  system = λ fs c r. at_each (with_begun b k) r r.holds;
+  disk = λ c r. at_each (with_begun b k) r r.holds;
+  template = λ c r. at_each (with_begun b k) r r.holds;
+  dropped = λ a c r. at_each (with_begun b k) r r.holds;
+  resting = λ a c d r. at_each (with_begun b k) r r.holds;
   types = types_still lives (each (with_begun b k) lives) (on_disk_each (with_begun b k) lives (λ l. refl));
 }
 
@@ -119,7 +120,7 @@ settled_other b k c l ne = ap (λ t. settled_if t k l) (ne_eqb c b ne)
 pub settled_same : (b k c : ℕ) (l : Life) → c ≡ b → settled b k c l ≡ settled_if true k l
 settled_same b k c l e = ap (λ t. settled_if t k l) (eq-eqb c b e)
 
-still_some : (o : Option BlockState) (s : BlockState) (xs : List BlockState) → o ≡ Some s → (t : BlockState) × (last_or o xs ≡ Some t)
+pub still_some : (o : Option BlockState) (s : BlockState) (xs : List BlockState) → o ≡ Some s → (t : BlockState) × (last_or o xs ≡ Some t)
 still_some o s [] e = (s, e)
 still_some o s (x ∷ xs) e = still_some (Some x) x xs refl
 
@@ -128,7 +129,7 @@ drop_none zero xs e = e
 drop_none (suc k) xs e = ap (drop (suc k)) e
 
 -- whether the test holds or not, something stands on the disk
-some_state : (t : Bool) (k : ℕ) (l : Life) (s : BlockState) → l.durable ≡ Some s → (r : BlockState) × ((settled_if t k l).durable ≡ Some r)
+pub some_state : (t : Bool) (k : ℕ) (l : Life) (s : BlockState) → l.durable ≡ Some s → (r : BlockState) × ((settled_if t k l).durable ≡ Some r)
 some_state true k l s e = still_some l.durable s (take k l.pending) e
 some_state false k l s e = (s, e)
 
@@ -151,7 +152,7 @@ still_none true k l e = drop_none k l.pending e
 still_none false k l e = e
 
 pub owned_settled : (b k : ℕ) (lives : Lives) (a c : ℕ) → IsOwnedBy lives a c → IsOwnedBy (each (settled b k) lives) a c
-owned_settled b k lives a c r = record { life = settled b k c r.life; alive = each_forth (settled b k) lives c r.life r.alive; status = r.status }
+owned_settled b k lives a c r = at_each (settled b k) r r.holds
 
 -- the pointers along the states that are left
 pub root_pointers : (t : Bool) (k : ℕ) (l : Life) → PointersStay (states l) → PointersStay (states (settled_if t k l))
@@ -179,12 +180,12 @@ pub carries_settled : (T : Types) (b k : ℕ) (lives : Lives) → IsRootLife T l
 carries_settled T b k lives root = record {
   types = settled_disk T b k lives root;
   count = length_revised (λ c o. option_map (settled b k c) o) lives;
-  belongs = λ a c u r. record { life = settled b k c r.life; alive = each_forth (settled b k) lives c r.life r.alive; ty = r.ty; by = r.by };
-  system = λ fs c r. record { life = settled b k c r.life; alive = each_forth (settled b k) lives c r.life r.alive; same = r.same };
-  disk = λ c r. let d = some_state (eqb c b) k r.life r.state r.durable in record { life = settled b k c r.life; alive = each_forth (settled b k) lives c r.life r.alive; state = d.0; durable = d.1 };
-  template = λ c r. record { life = settled b k c r.life; alive = each_forth (settled b k) lives c r.life r.alive; nobody = r.nobody; ty = r.ty; state = r.state; only = one_state (eqb c b) k r.life r.state r.only; bytes = r.bytes };
-  dropped = λ a c r. record { life = settled b k c r.life; alive = each_forth (settled b k) lives c r.life r.alive; status = r.status };
-  resting = λ a c d r. record { life = settled b k c r.life; alive = each_forth (settled b k) lives c r.life r.alive; nothing = still_none (eqb c b) k r.life r.nothing };
+  belongs = λ a c u r. at_each (settled b k) r r.holds;
+  system = λ fs c r. at_each (settled b k) r r.holds;
+  disk = λ c r. at_each (settled b k) r (some_state (eqb c b) k r.life r.holds.0 r.holds.1);
+  template = λ c r. at_each (settled b k) r (r.holds.0, r.holds.1, r.holds.2, one_state (eqb c b) k r.life r.holds.2 r.holds.3, r.holds.4);
+  dropped = λ a c r. at_each (settled b k) r r.holds;
+  resting = λ a c d r. at_each (settled b k) r (still_none (eqb c b) k r.life r.holds);
 }
 
 -- the first k states become one, and the rest stay

@@ -9,7 +9,7 @@ use Rattle.xn_model.specs.Lives.{Status, Fresh, Owned, Dropped, Life, Lives, lif
 use Rattle.xn_model.specs.Rules.{IsFreshBlock, IsOwnedBy, ChainsEnd, NamedIn, HasExactStatuses}
 use Rattle.xn_model.proofs.Changes.{each, free}
 use Rattle.xn_model.proofs.Lists.{Contains-none, Contains-cons, has_number_at}
-use Rattle.xn_model.proofs.Lives.{in_lives, each_forth, each_back, free_forth, free_back}
+use Rattle.xn_model.proofs.Lives.{in_lives, each_back, at_each, at_free, free_back}
 use Rattle.xn_model.proofs.FoundBlocks.{few_below}
 
 -- Block r is fresh, and n owners above block b.
@@ -33,10 +33,10 @@ below lives a b o c = record { owners = suc c.owners; top = c.top; above = (a, o
 -- One step
 
 fresh_owner : (lives : Lives) (b : ℕ) → IsFreshBlock lives b → life_owner (life_at lives b) ≡ None
-fresh_owner lives b f = ap life_owner f.alive ∙ ap owner_of f.status
+fresh_owner lives b f = ap life_owner f.alive ∙ ap owner_of f.holds
 
 owned_owner : (lives : Lives) (a b : ℕ) → IsOwnedBy lives a b → life_owner (life_at lives b) ≡ Some a
-owned_owner lives a b o = ap life_owner o.alive ∙ ap owner_of o.status
+owned_owner lives a b o = ap life_owner o.alive ∙ ap owner_of o.holds
 
 status_owned : (s : Status) (a : ℕ) → owner_of s ≡ Some a → s ≡ Owned a
 status_owned Fresh a e = absurd (none-some a e)
@@ -48,7 +48,7 @@ owner_is lives a b e = go (life_at lives b) refl e
   where
     go : (o : Option Life) → life_at lives b ≡ o → life_owner o ≡ Some a → IsOwnedBy lives a b
     go None f g = absurd (none-some a g)
-    go (Some l) f g = record { life = l; alive = f; status = status_owned l.status a g }
+    go (Some l) f g = record { life = l; alive = f; holds = status_owned l.status a g }
 
 abbrev climb_by : ℕ → Lives → ℕ → Option ℕ → ℕ
 climb_by n lives b o = elim o [ None ↦ b | Some a ↦ climb n lives a ]
@@ -152,7 +152,7 @@ ends_itself lives b f = climb_stays (length lives) lives b f
 
 -- and an owned block's chain ends where its owner's does
 pub same_end : (lives : Lives) → ChainsEnd lives → (a b : ℕ) → IsOwnedBy lives a b → chain_end lives b ≡ chain_end lives a
-same_end lives ends a b o = let c = chain_of lives ends b o.life o.alive (ap is_dropped o.status) in go c.owners c.top c.above
+same_end lives ends a b o = let c = chain_of lives ends b o.life o.alive (ap is_dropped o.holds) in go c.owners c.top c.above
   where
     go : (n r : ℕ) → IsAbove lives n r b → chain_end lives b ≡ chain_end lives a
     go zero r c = absurd (not_both lives a b c.1 o)
@@ -176,9 +176,9 @@ chains_each lives g same ends b m e in_use =
     let was : is_dropped r.0.status ≡ false = ap is_dropped (sym (same b r.0)) ∙ (ap (λ (x : Life). is_dropped x.status) (sym r.2) ∙ in_use) in
     let c = chain_of lives ends b r.0 r.1 was in
     chain_ends (each g lives) b (goes_on lives (each g lives) (λ x. ⊤)
-    (λ a x p o. (record { life = g x o.life; alive = each_forth g lives x o.life o.alive; status = same x o.life ∙ o.status }, tt))
+    (λ a x p o. (at_each g o (same x o.life ∙ o.holds), tt))
     c.owners c.top b c.above tt
-    (λ p f. alone (each g lives) c.top (record { life = g c.top f.life; alive = each_forth g lives c.top f.life f.alive; status = same c.top f.life ∙ f.status })))
+    (λ p f. alone (each g lives) c.top (at_each g f (same c.top f.life ∙ f.holds))))
 
 -- blocks that own nothing end
 pub chains_free : (T : Types) (lives : Lives) (blocks : List ℕ) → ((a : ℕ) (m : Life) (p : ℕ × ℕ) → Contains blocks a → life_at lives a ≡ Some m → NamedIn T m.ty (newest m) p → ⊥) →
@@ -187,9 +187,6 @@ chains_free T lives blocks empty x ends b l e in_use =
     let r = free_back blocks lives b l e in
     let c = chain_of lives ends b l r.1 in_use in
     chain_ends (free blocks lives) b (goes_on lives (free blocks lives) (λ y. Contains blocks y → ⊥)
-    (λ a y out o. (
-      record { life = o.life; alive = free_forth blocks lives y o.life out o.alive; status = o.status },
-      λ i. let n = x.owned y o.life a o.alive o.status in empty a n.life (y, o.life.ty) i n.alive n.names,
-    ))
+    (λ a y out o. (at_free blocks out o, λ i. let n = x.owned y o.life a o.alive o.holds in empty a n.life (y, o.life.ty) i n.alive n.holds))
     c.owners c.top b c.above r.0
-    (λ out f. alone (free blocks lives) c.top (record { life = f.life; alive = free_forth blocks lives c.top f.life out f.alive; status = f.status })))
+    (λ out f. alone (free blocks lives) c.top (at_free blocks out f)))

@@ -12,6 +12,7 @@ use Rattle.xn_model.specs.Lives.{Fresh, Life, Lives, life_at, newest, current, b
 use Rattle.xn_model.specs.Calls.{propose_of, edited, Edit, may_add, may_drop, is_empty, propose_at, patched, was_given, accepts, owns_nothing, edit_tests}
 use Rattle.xn_model.specs.Rules.{Keeps, IsInFileSystem, IsOwnedBy, IsLinkedLife, IsConsistent, NamedIn}
 use Rattle.xn_model.proofs.Lists.{all_at, has_pair_at, has_number_from, filter_at, filter_from, has_number_at, blocks_of_has}
+use Rattle.xn_model.proofs.Lives.{of_life, of_root}
 use Rattle.xn_model.proofs.Tests.{alive_from, fresh_from, owned_from, fs_from, unless_ok, own_then, same_ok}
 use Rattle.xn_model.proofs.Chains.{ends_itself}
 use Rattle.xn_model.proofs.States.{IsAddable, MayAccept}
@@ -19,27 +20,24 @@ use Rattle.xn_model.proofs.Accept.{accepts_keeps}
 
 -- a block of a file system is not block 0
 pub not_root : (T : Types) (state : StoreState) → IsConsistent T state → (fs c : ℕ) (l : Life) → life_at state.lives c ≡ Some l → l.fs ≡ Some fs → c ≢ 0
-not_root T state h fs c l e mine zero' =
-    let r = h.lives_sound.root in
-    let same : r.life ≡ l = same_Some r.life l (sym r.alive ∙ (ap (life_at state.lives) (sym zero') ∙ e)) in
-    none-some fs (sym r.nobody ∙ (ap (λ (x : Life). x.fs) same ∙ mine))
+not_root T state h fs c l e mine zero' = none-some fs (sym (of_root h.lives_sound.root l (ap (life_at state.lives) (sym zero') ∙ e)).1 ∙ mine)
 
 pub addable : (T : Types) (state : StoreState) → IsConsistent T state → (fs c u : ℕ) → may_add state fs (c, u) ≡ true → IsAddable state.lives c u
 addable T state h fs c u e =
     let r = alive_from (λ l. is_fresh l.status && ((l.ty == u) && is_for fs l.fs)) (life_at state.lives c) e in
     let one = and_parts (is_fresh r.0.status) ((r.0.ty == u) && is_for fs r.0.fs) r.2 in
     let two = and_parts (r.0.ty == u) (is_for fs r.0.fs) one.1 in
-    record { life = r.0; alive = r.1; ty = eqb-true r.0.ty u two.0; fresh = fresh_from r.0.status one.0; not_root = not_root T state h fs c r.0 r.1 (fs_from fs r.0.fs two.1) }
+    record { life = r.0; alive = r.1; holds = (eqb-true r.0.ty u two.0, fresh_from r.0.status one.0, not_root T state h fs c r.0 r.1 (fs_from fs r.0.fs two.1)) }
 
 pub addable_system : (state : StoreState) (fs c u : ℕ) → may_add state fs (c, u) ≡ true → IsInFileSystem state.lives (Some fs) c
 addable_system state fs c u e =
     let r = alive_from (λ l. is_fresh l.status && ((l.ty == u) && is_for fs l.fs)) (life_at state.lives c) e in
     let one = and_parts (is_fresh r.0.status) ((r.0.ty == u) && is_for fs r.0.fs) r.2 in
     let two = and_parts (r.0.ty == u) (is_for fs r.0.fs) one.1 in
-    record { life = r.0; alive = r.1; same = fs_from fs r.0.fs two.1 }
+    record { life = r.0; alive = r.1; holds = fs_from fs r.0.fs two.1 }
 
 pub droppable : (state : StoreState) (b c : ℕ) → may_drop state b c ≡ true → IsOwnedBy state.lives b c
-droppable state b c e = let r = alive_from (λ l. is_owned_by b l.status) (life_at state.lives c) e in record { life = r.0; alive = r.1; status = owned_from b r.0.status r.2 }
+droppable state b c e = let r = alive_from (λ l. is_owned_by b l.status) (life_at state.lives c) e in record { life = r.0; alive = r.1; holds = owned_from b r.0.status r.2 }
 
 -- what the current bytes name, the newest state names
 pub in_newest : (T : Types) (lives : Lives) (b : ℕ) (l : Life) → IsLinkedLife T lives b l → (p : ℕ × ℕ) → Contains (T.owned l.ty (current l)) p → NamedIn T l.ty (newest l) p
@@ -106,9 +104,8 @@ edit_may T state h fs b e l alive in_use mine adds drops claim size given emptie
         claim_adds T l.ty (current l) new e.adds e.drops c u parts.0 i,
         λ same.
             let a = addable T state h fs c u (all_at (may_add state fs) e.adds (c, u) adds i) in
-            let life : a.life ≡ l = same_Some a.life l (sym a.alive ∙ (ap (life_at state.lives) same ∙ alive)) in
-            let fresh : l.status ≡ Fresh = ap (λ (x : Life). x.status) (sym life) ∙ a.fresh in
-            let end : chain_end state.lives b ≡ c = ends_itself state.lives b (record { life = l; alive = alive; status = fresh }) ∙ sym same in
+            let fresh : l.status ≡ Fresh = (of_life a l (ap (life_at state.lives) same ∙ alive)).1 in
+            let end : chain_end state.lives b ≡ c = ends_itself state.lives b (record { life = l; alive = alive; holds = fresh }) ∙ sym same in
             not_below (subst (λ x. Contains (blocks_of e.adds) x) (sym end) (blocks_of_has e.adds (c, u) i)),
       );
       no_cycle = not_below;

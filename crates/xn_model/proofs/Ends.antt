@@ -17,7 +17,7 @@ use Rattle.xn_model.specs.Rules.{Keeps, ArePlaced, IsBy, IsRootLife, IsSoundLife
 use Rattle.xn_model.proofs.Changes.{bared, with_begun, each, free, settled}
 use Rattle.xn_model.proofs.Lists.{has_number_at, Contains-none, Contains-head, Contains-cons, Contains-take, Contains-drop, Contains-tail, last_of}
 use Rattle.xn_model.proofs.Languages.{kept_types, types_all, latest_each}
-use Rattle.xn_model.proofs.Lives.{life_from, free_at, freed_is, settled_is, settled_none, each_back, free_forth, free_back, length_revised}
+use Rattle.xn_model.proofs.Lives.{life_from, free_at, freed_is, settled_is, settled_none, each_back, free_forth, free_back, at_free, of_life, of_root, length_revised}
 use Rattle.xn_model.proofs.Catalogue.{on_disk_each}
 use Rattle.xn_model.proofs.Carry.{settled_disk, settled_same, settled_if, settled_gone, types_still}
 use Rattle.xn_model.proofs.Statuses.{exact_free, named_same, settled_newest, names_none}
@@ -79,11 +79,10 @@ module _ (T : Types) (state : StoreState) (h : IsConsistent T state) (blocks : L
         mark = λ s m. rw (length_revised (λ c o. cond (has_number blocks c) None o) state.lives) (r.mark s m);
         pointers = r.pointers;
         long = r.long;
-        templates = λ s c u m n. let t = r.templates s c u m n in
-            record { life = t.life; alive = free_forth blocks state.lives c t.life (template_stays s c u m n) t.alive; nobody = t.nobody; ty = t.ty; state = t.state; only = t.only; bytes = t.bytes };
+        templates = λ s c u m n. at_free blocks (template_stays s c u m n) (r.templates s c u m n);
         types = r.types;
         all_types = r.all_types;
-        slots = λ s i c m lt e ne. let t = r.slots s i c m lt e ne in record { life = t.life; alive = free_forth blocks state.lives c t.life (slot_stays s i c m lt e ne) t.alive; same = t.same };
+        slots = λ s i c m lt e ne. at_free blocks (slot_stays s i c m lt e ne) (r.slots s i c m lt e ne);
       }
 
   held_free : (b : ℕ) (l : Life) → life_at state.lives b ≡ Some l → IsSoundLife T now b l
@@ -92,9 +91,9 @@ module _ (T : Types) (state : StoreState) (h : IsConsistent T state) (blocks : L
       let k = h.lives_sound.each b l e in
       record {
         fit = k.fit;
-        named = λ s c u m n. let r = k.named s c u m n in record { life = r.life; alive = free_forth blocks state.lives c r.life (λ i. may.unnamed c i b l s u e m n) r.alive; ty = r.ty; by = r.by };
-        same_system = λ s c u ne m n. let r = k.same_system s c u ne m n in record { life = r.life; alive = free_forth blocks state.lives c r.life (λ i. may.unnamed c i b l s u e m n) r.alive; same = r.same };
-        ready = λ s c u m n. let r = k.ready s c u m n in record { life = r.life; alive = free_forth blocks state.lives c r.life (λ i. may.unnamed c i b l s u e (among_states l s m) n) r.alive; state = r.state; durable = r.durable };
+        named = λ s c u m n. at_free blocks (λ i. may.unnamed c i b l s u e m n) (k.named s c u m n);
+        same_system = λ s c u ne m n. at_free blocks (λ i. may.unnamed c i b l s u e m n) (k.same_system s c u ne m n);
+        ready = λ s c u m n. at_free blocks (λ i. may.unnamed c i b l s u e (among_states l s m) n) (k.ready s c u m n);
         typed = λ s c u ne m n. ap (λ m. has_type m u) (ap durable_bytes (free_same blocks state.lives 0 may.not_root)) ∙ k.typed s c u ne m n;
         rising = k.rising;
       }
@@ -106,15 +105,16 @@ module _ (T : Types) (state : StoreState) (h : IsConsistent T state) (blocks : L
       record {
         last = k.last;
         is_last = k.is_last;
-        owned = λ c u n. let r = k.owned c u n in record { life = r.life; alive = free_forth blocks state.lives c r.life (λ i. may.unnamed c i b l k.last u e (last_of l.durable l.pending k.last k.is_last) (subst (λ o. NamedIn T l.ty o (c, u)) k.is_last n)) r.alive; status = r.status };
+        owned = λ c u n. at_free blocks (λ i. may.unnamed c i b l k.last u e (last_of l.durable l.pending k.last k.is_last)
+            (subst (λ o. NamedIn T l.ty o (c, u)) k.is_last n)) (k.owned c u n);
         installed = k.installed;
         root_alone = k.root_alone;
         start = k.start;
         grows = k.grows;
-        dropped = λ s c m n. let r = k.dropped s c m n in record { life = r.life; alive = free_forth blocks state.lives c r.life (λ i. may.undropped c i b l s e m n) r.alive; status = r.status };
+        dropped = λ s c m n. at_free blocks (λ i. may.undropped c i b l s e m n) (k.dropped s c m n);
         gone = k.gone;
         flight = k.flight;
-        resting = λ s c m n. let r = k.resting s c m n in record { life = r.life; alive = free_forth blocks state.lives c r.life (λ i. may.undropped c i b l s e (carried_pending l s m) n) r.alive; nothing = r.nothing };
+        resting = λ s c m n. at_free blocks (λ i. may.undropped c i b l s e (carried_pending l s m) n) (k.resting s c m n);
       }
 
   pub free_keeps : IsConsistent T (record state { lives = free blocks state.lives })
@@ -166,8 +166,7 @@ module _ (T : Types) (state : StoreState) (h : IsConsistent T state) (b : ℕ) (
       let of : Contains (T.owned r.0.ty s.bytes) (c, u) = subst (λ (x : Life). Contains (T.owned x.ty s.bytes) (c, u)) r.2 names in
       let by = (h.lives_sound.each a r.0 r.1).named s c u (states_fewer (eqb a b) k r.0 s was) of in
       let d = gone_block c i in
-      let same : by.life ≡ d.life = same_Some by.life d.life (sym by.alive ∙ d.alive) in
-      let block : a ≡ b = by_dropped a b by.life.status (ap (λ (x : Life). x.status) same ∙ d.status) by.by in
+      let block : a ≡ b = by_dropped a b by.life.status (of_life d by.life by.alive) by.holds.1 in
       let life : r.0 ≡ l = same_Some r.0 l (sym r.1 ∙ (ap (life_at state.lives) block ∙ alive)) in
       let here : settled b k a r.0 ≡ settled_if true k l = settled_same b k a r.0 block ∙ ap (settled_if true k) life in
       let drop' = drops_at (take k l.pending) c i in
@@ -180,8 +179,7 @@ module _ (T : Types) (state : StoreState) (h : IsConsistent T state) (b : ℕ) (
       let was : Contains (settled b k a r.0).pending s = subst (λ (x : Life). Contains x.pending s) r.2 in' in
       let d' = (h.linked a r.0 r.1).dropped s c (pending_fewer (eqb a b) r.0 s was) drops in
       let d = gone_block c i in
-      let same : d'.life ≡ d.life = same_Some d'.life d.life (sym d'.alive ∙ d.alive) in
-      let block : a ≡ b = dropped_once a b d'.life.status (ap (λ (x : Life). x.status) same ∙ d.status) d'.status in
+      let block : a ≡ b = dropped_once a b d'.life.status (of_life d d'.life d'.alive) d'.holds in
       let life : r.0 ≡ l = same_Some r.0 l (sym r.1 ∙ (ap (life_at state.lives) block ∙ alive)) in
       let here : settled b k a r.0 ≡ settled_if true k l = settled_same b k a r.0 block ∙ ap (settled_if true k) life in
       let drop' = drops_at (take k l.pending) c i in
@@ -193,21 +191,17 @@ module _ (T : Types) (state : StoreState) (h : IsConsistent T state) (b : ℕ) (
 
   settled_not_root : Contains (drops_of (take k l.pending)) 0 → ⊥
   settled_not_root i =
-      let d = gone_block 0 i in
       let r = h.lives_sound.root in
-      let same : r.life ≡ d.life = same_Some r.life d.life (sym r.alive ∙ d.alive) in
-      let p : Fresh ≡ Dropped b = sym r.unowned ∙ (ap (λ (x : Life). x.status) same ∙ d.status) in
+      let p : Fresh ≡ Dropped b = sym r.unowned ∙ of_life (gone_block 0 i) r.life r.alive in
       absurd cc
 
   -- a dropped block names nothing
   settled_empty : (a : ℕ) (m : Life) (p : ℕ × ℕ) → Contains (drops_of (take k l.pending)) a → life_at (each (settled b k) state.lives) a ≡ Some m → NamedIn T m.ty (newest m) p → ⊥
   settled_empty a m p i e n =
       let r = each_back (settled b k) state.lives a m e in
-      let d = gone_block a i in
-      let same : r.0 ≡ d.life = same_Some r.0 d.life (sym r.1 ∙ d.alive) in
       let x = settled_newest b k a r.0 in
       let old : NamedIn T r.0.ty (newest r.0) p = named_same T m r.0 p (sym x.ty ∙ ap (λ (y : Life). y.ty) (sym r.2)) (sym x.newest ∙ ap newest (sym r.2)) n in
-      h.statuses.emptied a r.0 b p r.1 (ap (λ (y : Life). y.status) same ∙ d.status) old
+      h.statuses.emptied a r.0 b p r.1 (of_life (gone_block a i) r.0 r.1) old
 
   settled_may_free : MayFree T (each (settled b k) state.lives) (drops_of (take k l.pending))
   settled_may_free = record { not_root = settled_not_root; empty = settled_empty; unnamed = settled_unnamed; undropped = settled_undropped }
@@ -335,15 +329,11 @@ forgotten_may T state h fs b l alive mine fresh nothing = record {
   empty = λ a m p i e n.
       let same : m ≡ l = same_Some m l (sym e ∙ (ap (life_at state.lives) (sym (only i)) ∙ alive)) in
       names_none T l p nothing (subst (λ (x : Life). NamedIn T x.ty (newest x) p) same n);
-  not_root = λ i. let r = h.lives_sound.root in
-      let same : r.life ≡ l = same_Some r.life l (sym r.alive ∙ (ap (life_at state.lives) (sym (only i)) ∙ alive)) in
-      none-some fs (sym r.nobody ∙ (ap (λ (x : Life). x.fs) same ∙ mine));
-  unnamed = λ c i a m s u e in' names. let by = (h.lives_sound.each a m e).named s c u in' names in
-      let same : by.life ≡ l = same_Some by.life l (sym by.alive ∙ (ap (life_at state.lives) (sym (only i)) ∙ alive)) in
-      subst (IsBy a) (ap (λ (x : Life). x.status) same ∙ fresh) by.by;
-  undropped = λ c i a m s e in' drops. let d = (h.linked a m e).dropped s c in' drops in
-      let same : d.life ≡ l = same_Some d.life l (sym d.alive ∙ (ap (life_at state.lives) (sym (only i)) ∙ alive)) in
-      let p : Dropped a ≡ Fresh = sym d.status ∙ (ap (λ (x : Life). x.status) same ∙ fresh) in
+  not_root = λ i. none-some fs (sym (of_root h.lives_sound.root l (ap (life_at state.lives) (sym (only i)) ∙ alive)).1 ∙ mine);
+  unnamed = λ c i a m s u e in' names. subst (IsBy a) fresh
+      (of_life ((h.lives_sound.each a m e).named s c u in' names) l (ap (life_at state.lives) (sym (only i)) ∙ alive)).1;
+  undropped = λ c i a m s e in' drops.
+      let p : Fresh ≡ Dropped a = sym fresh ∙ of_life ((h.linked a m e).dropped s c in' drops) l (ap (life_at state.lives) (sym (only i)) ∙ alive) in
       absurd cc;
 }
   where

@@ -12,7 +12,8 @@ use Rattle.xn_model.specs.Calls.{bytes_at, pick_of, is_ready, life_pending}
 use Rattle.xn_model.specs.Worlds.{World, types_now, Begin, Land, Sync, Finish, Reply, Landed, Synced, replies, world_after, all_pending, Run, IsEvent}
 use Rattle.xn_model.specs.Waves.{can_begin, ready_blocks, IsWave, wave, begun_reply, finished_reply, wave_replies, is_success, waves_for, waves, flush, Done, all_done, all_drops, life_then, IsAfterWave}
 use Rattle.xn_model.specs.Flights.{flight_of, HaveSameFlights}
-use Rattle.xn_model.specs.Rules.{IsConsistent, Holds, IsIdle, IsCount}
+use Rattle.xn_model.specs.Rules.{IsConsistent, Holds, IsIdle}
+use Rattle.xn_model.proofs.Reached.{idle_at_rest}
 use Rattle.xn_model.proofs.Lists.{Contains-none, Contains-head, Contains-take, has_number_at, has_number_from, filter_at, filter_from}
 use Rattle.xn_model.proofs.Lives.{past}
 use Rattle.xn_model.proofs.Tests.{some_from, safe_count_within}
@@ -98,14 +99,10 @@ module _ (w : World) (h : Holds w) (bs : List ℕ) (can : IsWave w.state.lives b
   drops = all_drops w all_done bs
 
   -- what is dropped has no write under way
-  rests : (o : Option ℕ) (n : ℕ) → n ≡ 0 → IsCount o n → o ≡ None
-  rests None n e count = refl
-  rests (Some k) n e count = let lo : 1 ≤ k = count.0 in let hi : k ≤ n = count.1 in absurd (omega arith)
-
   dropped_idle : (c : ℕ) → has_number drops c ≡ true → (l : Life) × (life_at lives c ≡ Some l) × (l.begun ≡ None)
   dropped_idle c t =
       let rest = dropped_rests w all_done bs c (has_number_at drops c t) in
-      (rest.life, rest.alive, rests rest.life.begun (length rest.life.pending) (ap length rest.nothing) (h.state.linked c rest.life rest.alive).flight)
+      (rest.life, rest.alive, idle_at_rest rest.life.begun (length rest.life.pending) (ap length rest.holds) (h.state.linked c rest.life rest.alive).flight)
 
   settled_idle : (k : ℕ) (o : Option Life) → flight_of (option_map (settle k) o) ≡ None
   settled_idle k None = refl

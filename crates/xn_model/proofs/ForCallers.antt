@@ -3,7 +3,7 @@
 -- lists, bytes and tests
 pub use Rattle.xn_model.proofs.Lists.{Contains-cons, Contains-drop, Contains-head, Contains-none, Contains-tail, Contains-take, all_at, any_at, any_from, blocks_of_at, blocks_of_has, filter_at, filter_from, has_number_at, has_number_from, has_pair_at, has_pair_from, last_of}
 pub use Rattle.xn_model.proofs.Bytes.{blocks_read, length-joined}
-pub use Rattle.xn_model.proofs.Tests.{IsOwn, fresh_from, fs_from, given_ok, map_ok, never_ok, no_states_from, none_from, own_then, same_ok, then_ok, unless_ok, unless_passed}
+pub use Rattle.xn_model.proofs.Tests.{IsOwn, alive_from, fresh_from, fs_from, given_ok, map_ok, never_ok, no_states_from, none_from, own_then, owned_from, same_ok, then_ok, unless_ok, unless_passed}
 pub use Rattle.xn_model.proofs.Puts.{bytes_apart, bytes_within, length_put}
 -- block 0
 pub use Rattle.xn_model.proofs.RootBytes.{different_apart, not_empty, range_at, roots_from, slot_keeps, slot_other, slot_same, slot_stays, template_owned, template_type, templates_at, templates_from}
@@ -12,7 +12,7 @@ pub use Rattle.xn_model.proofs.Catalogue.{has_built_in, has_keeps, keeps_self, k
 -- types
 pub use Rattle.xn_model.proofs.Languages.{built_ins_in, fits_same, installed_has, latest_each, none_owned, same_installed, same_owned, same_size, same_template, template_is, types_all, types_same}
 -- lives and their changes
-pub use Rattle.xn_model.proofs.Lives.{accepted_is, begun_is, change_same, each_at, each_back, each_forth, free_at, free_back, free_forth, freed_is, life_from, place_from, set_other, set_same, settled_is, settled_none}
+pub use Rattle.xn_model.proofs.Lives.{accepted_is, begun_is, change_same, each_at, each_back, each_forth, free_at, free_back, free_forth, freed_is, life_from, of_life, of_root, place_from, set_other, set_same, settled_is, settled_none}
 pub use Rattle.xn_model.proofs.States.{accepted_other, accepted_same, fresh_owned, owned_dropped, status_cases}
 pub use Rattle.xn_model.proofs.Changes.{accept, accepted, bared, each, free, settled, with_begun}
 pub use Rattle.xn_model.proofs.Carry.{settled_fewer, settled_last}

@@ -1,5 +1,5 @@
 -- A life begins on a free block.
-use Rattle.std.proofs.Common.{◌≡◌, ℕ, ◌+◌, ◌<◌, ◌≢◌, ◌⊎◌, true, false, not, ◌||◌, List, [], ◌∷◌, length, get_or, Option, Some, None, refl, sym, ◌∙◌, ap, inl, inr, arith, subst}
+use Rattle.std.proofs.Common.{◌≡◌, ℕ, ◌+◌, ◌<◌, ◌≢◌, ◌⊎◌, true, not, ◌||◌, List, [], ◌∷◌, length, get_or, Option, Some, None, refl, sym, ◌∙◌, ap, inl, inr, arith, subst}
 use Rattle.std.specs.Prelude.{Contains, IsTrue, ⊤, nat_lt, slice_set, is_none, Ok}
 use Rattle.std.proofs.lemmas.Bool.{cases_eq, false≢true, not-false, and_from, or_parts, ltb-false}
 use Rattle.std.proofs.lemmas.Option.{same_Some, none-some, unwrap_or-slice_get}
@@ -13,7 +13,8 @@ use Rattle.xn_model.specs.Languages.{Language}
 use Rattle.xn_model.specs.Lives.{BlockState, Life, Lives, life_at, states, durable_bytes, lowest_free, Owned, Dropped, Fresh, StoreState}
 use Rattle.xn_model.specs.Results.{NoSpace, BadType, TooManyPending, Exhausted, SizeWrong, ClaimWrong}
 use Rattle.xn_model.specs.Calls.{first_state, init_of, new_life, started, init_at, types_of, life_bytes, owns_nothing, too_many, exhausted}
-use Rattle.xn_model.specs.Rules.{Keeps, IsBy, WaitsForOlder, IsSoundLife, IsLinkedLife, IsConsistent, HasExactStatuses, AreOrdered, ChainsEnd}
+use Rattle.xn_model.specs.Rules.{At, Keeps, IsBy, WaitsForOlder, IsSoundLife, IsLinkedLife, IsConsistent, HasExactStatuses, AreOrdered, ChainsEnd}
+use Rattle.xn_model.proofs.Statuses.{owns_none}
 use Rattle.xn_model.proofs.Lists.{Contains-none, Contains-cons}
 use Rattle.xn_model.proofs.Languages.{kept_types}
 use Rattle.xn_model.proofs.Carry.{Carries, types_still, held_still, kept_still, root_still}
@@ -22,13 +23,6 @@ use Rattle.xn_model.proofs.Tests.{unless_ok, never_ok, same_ok}
 use Rattle.xn_model.proofs.Lives.{set_other, set_same}
 use Rattle.xn_model.proofs.Reached.{carried_pending}
 use Rattle.xn_model.proofs.Orders.{AreBelow, below_next, ordered_start}
-
-pub nothing_owned : (T : Types) (t : ℕ) (m : List ℕ) → owns_nothing T t m ≡ true → T.owned t m ≡ []
-nothing_owned T t m e = go (T.owned t m) e
-  where
-    go : (ps : List (ℕ × ℕ)) → elim ps [ [] ↦ true | p ∷ qs ↦ false ] ≡ true → ps ≡ []
-    go [] e = refl
-    go (p ∷ ps) e = absurd (false≢true e)
 
 -- the lowest free block is free
 pub lowest_is : (lives : Lives) (b : ℕ) → lowest_free lives ≡ Some b → (b < length lives) × (life_at lives b ≡ None)
@@ -50,6 +44,9 @@ module _ (T : Types) (state : StoreState) (h : IsConsistent T state) (b : ℕ) (
       let other : c ≢ b = λ same. none-some l (sym free' ∙ (ap (life_at state.lives) (sym same) ∙ e)) in
       set_other state.lives b c (Some start) other ∙ e
 
+  still : {c : ℕ} {P : Life → Type 0} → At state.lives c P → At now c P
+  still {c} r = record { life = r.life; alive = forth c r.life r.alive; holds = r.holds }
+
   back : (c : ℕ) (m : Life) → life_at now c ≡ Some m → ((c ≡ b) × (start ≡ m)) ⊎ (life_at state.lives c ≡ Some m)
   unfolding now
   back c m e = elim (cases_eq c b) [
@@ -68,12 +65,12 @@ module _ (T : Types) (state : StoreState) (h : IsConsistent T state) (b : ℕ) (
   unfolding now
   carries_start = record {
     count = length-set state.lives b (Some start);
-    belongs = λ a c u r. record { life = r.life; alive = forth c r.life r.alive; ty = r.ty; by = r.by };
-    system = λ fs c r. record { life = r.life; alive = forth c r.life r.alive; same = r.same };
-    disk = λ c r. record { life = r.life; alive = forth c r.life r.alive; state = r.state; durable = r.durable };
-    template = λ c r. record { life = r.life; alive = forth c r.life r.alive; nobody = r.nobody; ty = r.ty; state = r.state; only = r.only; bytes = r.bytes };
-    dropped = λ a c r. record { life = r.life; alive = forth c r.life r.alive; status = r.status };
-    resting = λ a c d r. record { life = r.life; alive = forth c r.life r.alive; nothing = r.nothing };
+    belongs = λ a c u r. still r;
+    system = λ fs c r. still r;
+    disk = λ c r. still r;
+    template = λ c r. still r;
+    dropped = λ a c r. still r;
+    resting = λ a c d r. still r;
     types = types_still state.lives now (ap durable_bytes root_same);
   }
 
@@ -82,11 +79,11 @@ module _ (T : Types) (state : StoreState) (h : IsConsistent T state) (b : ℕ) (
   queued_start no_adds no_drops no_after no_owner = record {
     adds = λ a l s c u e i m. elim (back a l e) [
       | inl new ↦ absurd (no_adds s (c, u) (subst (λ (x : Life). Contains x.pending s) (sym new.1) i) m)
-      | inr old ↦ let x = h.waits.adds a l s c u old i m in (x.0, record { life = x.1.life; alive = forth c x.1.life x.1.alive; older = x.1.older })
+      | inr old ↦ let x = h.waits.adds a l s c u old i m in (x.0, still x.1)
     ];
     types = λ a l s c u e i m. elim (back a l e) [
       | inl new ↦ absurd (no_adds s (c, u) (subst (λ (x : Life). Contains x.pending s) (sym new.1) i) m)
-      | inr old ↦ let o = h.waits.types a l s c u old i m in record { life = o.life; alive = forth 0 o.life o.alive; older = o.older }
+      | inr old ↦ still (h.waits.types a l s c u old i m)
     ];
     drops = λ a l s c m t e i d f j. elim (back a l e) [
       | inl new ↦ absurd (no_drops s c (subst (λ (x : Life). Contains x.pending s) (sym new.1) i) d)
@@ -110,7 +107,7 @@ module _ (T : Types) (state : StoreState) (h : IsConsistent T state) (b : ℕ) (
   exact_start fresh = record {
     owned = λ c l a e s. elim (back c l e) [
       | inl new ↦ let p : Fresh ≡ Owned a = sym fresh ∙ (ap (λ (x : Life). x.status) new.1 ∙ s) in absurd cc
-      | inr old ↦ let o = h.statuses.owned c l a old s in record { life = o.life; alive = forth a o.life o.alive; names = o.names }
+      | inr old ↦ still (h.statuses.owned c l a old s)
     ];
     emptied = λ c l a p e s n. elim (back c l e) [
       | inl new ↦ let q : Fresh ≡ Dropped a = sym fresh ∙ (ap (λ (x : Life). x.status) new.1 ∙ s) in absurd cc
@@ -122,11 +119,11 @@ module _ (T : Types) (state : StoreState) (h : IsConsistent T state) (b : ℕ) (
   chains_start : start.status ≡ Fresh → ChainsEnd now
   unfolding now
   chains_start fresh c l e in_use = elim (back c l e) [
-    | inl new ↦ chain_ends now c (alone now c (record { life = l; alive = e; status = ap (λ (x : Life). x.status) (sym new.1) ∙ fresh }))
+    | inl new ↦ chain_ends now c (alone now c (record { life = l; alive = e; holds = ap (λ (x : Life). x.status) (sym new.1) ∙ fresh }))
     | inr old ↦
         let k = chain_of state.lives h.chains c l old in_use in
-        chain_ends now c (goes_on state.lives now (λ x. ⊤) (λ a x p o. (record { life = o.life; alive = forth x o.life o.alive; status = o.status }, tt)) k.owners k.top c k.above tt
-        (λ p f. alone now k.top (record { life = f.life; alive = forth k.top f.life f.alive; status = f.status })))
+        chain_ends now c (goes_on state.lives now (λ x. ⊤) (λ a x p o. (still o, tt)) k.owners k.top c k.above tt
+        (λ p f. alone now k.top (still f)))
   ]
 
   start_order : (s : BlockState) → start.pending ≡ s ∷ [] → start.begun ≡ None → AreBelow state.lives s.entry → AreOrdered now
@@ -156,12 +153,12 @@ module _ (T : Types) (state : StoreState) (h : IsConsistent T state) (b : ℕ) (
         root = let r = h.lives_sound.root in root_still T state.lives now carries_start r r.life r.state (forth 0 r.life r.alive) r.ty r.nobody r.unowned r.durable (λ t m. m) r.pointers refl;
         each = λ c m e. elim (back c m e) [
           | inl new ↦ subst (λ x. IsSoundLife T now x m) (sym new.0) (subst (IsSoundLife T now b) new.1 held)
-          | inr old ↦ held_still T state.lives now c m carries_start (h.lives_sound.each c m old)
+          | inr old ↦ held_still T state.lives now c m m.status carries_start (h.lives_sound.each c m old)
         ];
       };
       linked = λ c m e. elim (back c m e) [
         | inl new ↦ subst (λ x. IsLinkedLife T now x m) (sym new.0) (subst (IsLinkedLife T now b) new.1 linked)
-        | inr old ↦ kept_still T state.lives now c m carries_start (λ x r. record { life = r.life; alive = forth x r.life r.alive; status = r.status }) (carried_pending m) (h.linked c m old)
+        | inr old ↦ kept_still T state.lives now c m m.status carries_start (λ x r. still r) (carried_pending m) (h.linked c m old)
       ];
       numbers = λ c m s e i. elim (back c m e) [
         | inl new ↦ numbers s (subst (λ x. Contains (states x) s) (sym new.1) i)
@@ -254,4 +251,4 @@ init_keeps T state h fs t m made new e =
     let type' = or_parts (nat_lt t 2) (not (T.installed t)) u.0.0 in
     let large = ltb-false t 2 type'.0 in
     init_at_keeps T state h fs t m (not-false (T.installed t) type'.1) (λ z. absurd (omega arith))
-    (nothing_owned T t m (not-false (owns_nothing T t m) u.0.1.1.1.1.0)) (not-false (within_size T t m) u.0.1.1.1.0) (lowest_free state.lives) refl (made, new) u.1
+    (owns_none T t m (not-false (owns_nothing T t m) u.0.1.1.1.1.0)) (not-false (within_size T t m) u.0.1.1.1.0) (lowest_free state.lives) refl (made, new) u.1

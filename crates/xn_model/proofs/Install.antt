@@ -15,7 +15,7 @@ use Rattle.xn_model.specs.Calls.{install_of, install_at, empty_place, catalogue_
 use Rattle.xn_model.specs.Rules.{IsConsistent, Keeps, Installs, ArePlaced, IsTemplate, IsRootLife}
 use Rattle.xn_model.proofs.Changes.{accepted}
 use Rattle.xn_model.proofs.Lists.{Contains-none, Contains-head, Contains-tail, Contains-cons, blocks_of_at}
-use Rattle.xn_model.proofs.Lives.{accepted_is, length_accepted, each_forth, set_other, set_same}
+use Rattle.xn_model.proofs.Lives.{accepted_is, length_accepted, each_forth, of_life, set_other, set_same}
 use Rattle.xn_model.proofs.Tests.{unless_ok, same_ok}
 use Rattle.xn_model.proofs.Chains.{ends_itself}
 use Rattle.xn_model.proofs.Catalogue.{has_built_in, has_keeps}
@@ -64,7 +64,7 @@ module _ (T : Types) (state : StoreState) (h : IsConsistent T state) (i : ℕ) (
   m_long = long T state h
 
   ty_is : l.ty ≡ 1
-  ty_is = ap (λ (x : Life). x.ty) (same_Some l template.life (sym alive ∙ template.alive)) ∙ template.ty
+  ty_is = (of_life template l alive).1
 
   small : b < 2 ^ 32
   small = (small_life T state h b l alive).0
@@ -73,9 +73,7 @@ module _ (T : Types) (state : StoreState) (h : IsConsistent T state) (i : ℕ) (
   unnamed : Contains (blocks_of (owned_by_root m)) b → ⊥
   unnamed n =
       let u = blocks_of_at (owned_by_root m) b n in
-      let o = root_owns T state h b u.0 u.1 in
-      let same : l ≡ o.life = same_Some l o.life (sym alive ∙ o.alive) in
-      let clash : Fresh ≡ Owned 0 = sym fresh ∙ (ap (λ (x : Life). x.status) same ∙ o.status) in
+      let clash : Fresh ≡ Owned 0 = sym fresh ∙ of_life (root_owns T state h b u.0 u.1) l alive in
       absurd cc
 
   to_root : (c u : ℕ) → Contains (T.owned r.life.ty s.bytes) (c, u) → Contains (owned_by_root s.bytes) (c, u)
@@ -99,7 +97,7 @@ module _ (T : Types) (state : StoreState) (h : IsConsistent T state) (i : ℕ) (
   may : MayAccept T state.lives 0 r.life s
   may = record {
     adds = λ c u k. let e = one c u k in
-        subst (λ x. IsAddable state.lives x u) e.0 (record { life = l; alive = alive; ty = ty_is ∙ e.1; fresh = fresh; not_root = ne });
+        subst (λ x. IsAddable state.lives x u) e.0 (record { life = l; alive = alive; holds = (ty_is ∙ e.1, fresh, ne) });
     systems = λ c u zero' k. absurd (zero' refl);
     drops = λ c k. absurd (Contains-none c k);
     in_use = ap is_dropped r.unowned;
@@ -198,7 +196,7 @@ module _ (L : Language) (state : StoreState) (h : IsConsistent (types_of L state
   begun_empty = ap (λ m. pointer m i) same_root ∙ empty
 
   template : IsTemplate T begun.lives b
-  template = record { life = life; alive = life_alive; nobody = refl; ty = refl; state = first_state state.next None bytes; only = refl; bytes = at_bytes }
+  template = record { life = life; alive = life_alive; holds = (refl, refl, first_state state.next None bytes, refl, at_bytes) }
     where
       at_bytes : IsTrue (T.template bytes)
       at_bytes = template_is L (latest state.lives) bytes ∙ is_template

@@ -4,15 +4,16 @@ use Rattle.std.specs.Prelude.{Contains, option_map, slice_set, IfSome, is_some}
 use Rattle.std.specs.List.{last_or}
 use Rattle.std.proofs.lemmas.Bool.{cases_eq, false≢true}
 use Rattle.std.proofs.lemmas.List.{length-set}
-use Rattle.std.proofs.lemmas.Option.{same_Some, none-some}
+use Rattle.std.proofs.lemmas.Option.{none-some}
 use Rattle.xn_model.specs.Lists.{has_number}
 use Rattle.xn_model.specs.Types.{Types}
 use Rattle.xn_model.specs.Lives.{BlockState, Life, Lives, StoreState, life_at, bytes_of, carried, first_states, begun_at, settle, settled_at, freed, accepted_at, drops_of, durable_after}
 use Rattle.xn_model.specs.Rules.{IsConsistent, IsCount}
 use Rattle.xn_model.specs.Lanes.{FitsLife, FitLives}
+use Rattle.xn_model.proofs.Reached.{idle_at_rest}
 use Rattle.xn_model.proofs.Changes.{accepted}
 use Rattle.xn_model.proofs.Lists.{has_number_at, Contains-none}
-use Rattle.xn_model.proofs.Lives.{accepted_is, length_accepted, each_at, set_other, set_same, change_same, freed_at, length_freed, length_change}
+use Rattle.xn_model.proofs.Lives.{of_life, accepted_is, length_accepted, each_at, set_other, set_same, change_same, freed_at, length_freed, length_change}
 use Rattle.xn_model.proofs.Ends.{Settles, drops_at}
 
 module _ {L : Type 0} (read : L → List ℕ) where
@@ -105,10 +106,6 @@ module _ {L : Type 0} (read : L → List ℕ) where
     abbrev pub ended : List ℕ
     ended = drops_of (take k s.life.pending)
 
-    idle_at_rest : (o : Option ℕ) (n : ℕ) → n ≡ 0 → IsCount o n → o ≡ None
-    idle_at_rest None n e i = refl
-    idle_at_rest (Some j) n e i = let lo = i.0 in let hi = i.1 in absurd (omega arith)
-
     -- what a write drops has no write begun
     pub ended_idle : (c : ℕ) (l : Life) → Contains ended c → life_at state.lives c ≡ Some l → l.begun ≡ None
     ended_idle c l i e = elim s.case [
@@ -116,8 +113,7 @@ module _ {L : Type 0} (read : L → List ℕ) where
           let d = drops_at (take k s.life.pending) c i in
           let in' : Contains (carried s.life) d.0 = subst (λ o. Contains (first_states o s.life.pending) d.0) (sym landed.0) d.1 in
           let rest = (h.linked b s.life s.alive).resting d.0 c in' d.2 in
-          let same : rest.life ≡ l = same_Some rest.life l (sym rest.alive ∙ e) in
-          idle_at_rest l.begun (length l.pending) (ap (λ (x : Life). length x.pending) (sym same) ∙ ap length rest.nothing) (h.linked c l e).flight
+          idle_at_rest l.begun (length l.pending) (ap length (of_life rest l e)) (h.linked c l e).flight
       | inr none ↦ absurd (Contains-none c (subst (λ n. Contains (drops_of (take n s.life.pending)) c) none.0 i))
     ]
 

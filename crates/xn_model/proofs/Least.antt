@@ -111,7 +111,7 @@ module _ (T : Types) (state : StoreState) (h : IsConsistent T state) (n : ℕ) (
       added : (c u : ℕ) → Contains s.adds (c, u) → has_durable state.lives c ≡ true
       added c u k =
           let o = (h.waits.adds b l s c u alive i k).1 in
-          elim o.older [
+          elim o.holds [
             | inl d ↦ ap (alive_and (λ x. is_some x.durable)) o.alive ∙ ap is_some d.1
             | inr t ↦ absurd (none_older c o.life t.0 o.alive t.1 (let lt = t.2 in omega arith))
           ]
@@ -120,7 +120,7 @@ module _ (T : Types) (state : StoreState) (h : IsConsistent T state) (n : ℕ) (
       typed : (c u : ℕ) → Contains s.adds (c, u) → is_type_met state.lives l.ty earlier u ≡ true
       typed c u k =
           let o = h.waits.types b l s c u alive i k in
-          or_left (has_type (root_on_disk state.lives) u) ((l.ty == 0) && list_any (λ x. has_type x.bytes u) earlier) (elim o.older [
+          or_left (has_type (root_on_disk state.lives) u) ((l.ty == 0) && list_any (λ x. has_type x.bytes u) earlier) (elim o.holds [
             | inl d ↦ ap (λ m. has_type m u) (on_disk_is state.lives o.life d.0 o.alive d.1) ∙ d.2
             | inr t ↦ absurd (none_older 0 o.life t.0 o.alive t.1 (let lt = t.2 in omega arith))
           ])

@@ -1,12 +1,14 @@
 -- What a change of lives leaves at one block.
-use Rattle.std.proofs.Common.{◌≡◌, ℕ, zero, suc, ◌+◌, ◌<◌, ◌≤◌, Bool, true, false, cond, List, [], ◌∷◌, ◌++◌, length, take, drop, Option, Some, None, refl, sym, ◌∙◌, ap, inl, inr, arith, zero-add}
+use Rattle.std.proofs.Common.{◌≡◌, ℕ, zero, suc, ◌+◌, ◌<◌, ◌≤◌, Bool, true, false, cond, List, [], ◌∷◌, ◌++◌, length, take, drop, Option, Some, None, refl, sym, ◌∙◌, ap, inl, inr, arith, zero-add, subst}
 use Rattle.std.specs.Prelude.{◌||◌, ◌==◌, Contains, option_map, fold, slice_set, slice_get, unwrap_or}
 use Rattle.std.specs.List.{last_or}
 use Rattle.std.proofs.lemmas.Bool.{false≢true, cases_Bool, cases_eq, eq-eqb, ne_eqb}
 use Rattle.std.proofs.lemmas.List.{length-set}
 use Rattle.std.proofs.lemmas.Option.{same_Some, none-some, slice_get_past}
+use Rattle.xn_model.specs.Types.{Types}
 use Rattle.xn_model.specs.Lists.{has_number, blocks_of}
-use Rattle.xn_model.specs.Lives.{durable_after, BlockState, Status, Owned, Dropped, Life, Lives, life_at, change_at, with_state, with_status, owned_after, dropped_after, accepted_at, begun_at, settled_at, freed}
+use Rattle.xn_model.specs.Lives.{durable_after, BlockState, Status, Fresh, Owned, Dropped, Life, Lives, life_at, change_at, with_state, with_status, owned_after, dropped_after, accepted_at, begun_at, settled_at, freed}
+use Rattle.xn_model.specs.Rules.{At, IsRootLife}
 use Rattle.xn_model.proofs.Changes.{bare_if, bared, revise_from, revise, each, free, accepted, accept, with_begun, settled}
 use Rattle.xn_model.proofs.Lists.{has_number_at, has_number_from}
 
@@ -40,6 +42,20 @@ mapped f (Some x) y e = (x, refl, sym (same_Some (f x) y e))
 pub each_back : (f : ℕ → Life → Life) (lives : Lives) (c : ℕ) (m : Life) → life_at (each f lives) c ≡ Some m → (l : Life) × (life_at lives c ≡ Some l) × (m ≡ f c l)
 each_back f lives c m e = mapped (f c) (life_at lives c) m (sym (each_at f lives c) ∙ e)
 
+-- What is said of a block that is alive, with P
+
+-- is so of its life
+pub of_life : {lives : Lives} {c : ℕ} {P : Life → Type 0} (r : At lives c P) (l : Life) → life_at lives c ≡ Some l → P l
+of_life {P = P} r l e = subst P (same_Some r.life l (sym r.alive ∙ e)) r.holds
+
+-- as is what holds of block 0's
+pub of_root : {T : Types} {lives : Lives} (r : IsRootLife T lives) (l : Life) → life_at lives 0 ≡ Some l → (l.ty ≡ 0) × (l.fs ≡ None) × (l.status ≡ Fresh)
+of_root r l e = subst (λ (x : Life). (x.ty ≡ 0) × (x.fs ≡ None) × (x.status ≡ Fresh)) (same_Some r.life l (sym r.alive ∙ e)) (r.ty, r.nobody, r.unowned)
+
+-- and in other lives, of the life that it has there
+pub at_each : {lives : Lives} {c : ℕ} {P Q : Life → Type 0} (f : ℕ → Life → Life) (r : At lives c P) → Q (f c r.life) → At (each f lives) c Q
+at_each {lives} {c} f r q = record { life = f c r.life; alive = each_forth f lives c r.life r.alive; holds = q }
+
 -- free
 
 none_stays : (b : Bool) (o : Option Life) → o ≡ None → cond b None o ≡ None
@@ -54,6 +70,9 @@ free_forth blocks lives c l not_in e = free_at blocks lives c ∙ elim (cases_Bo
   | inl t ↦ absurd (not_in (has_number_at blocks c t))
   | inr f ↦ ap (λ b. cond b None (life_at lives c)) f ∙ e
 ]
+
+pub at_free : {lives : Lives} {c : ℕ} {P : Life → Type 0} (blocks : List ℕ) → (Contains blocks c → ⊥) → At lives c P → At (free blocks lives) c P
+at_free {lives} {c} blocks out r = record { life = r.life; alive = free_forth blocks lives c r.life out r.alive; holds = r.holds }
 
 kept_only : (b : Bool) (o : Option Life) (l : Life) → cond b None o ≡ Some l → (b ≡ false) × (o ≡ Some l)
 kept_only true o l e = absurd (none-some l e)

@@ -12,7 +12,7 @@ use Rattle.xn_model.specs.Worlds.{World, types_now, Begin, Finish, Reply, Begun,
 use Rattle.xn_model.specs.Waves.{can_begin, nth_step, one_step_more, turns_from, in_turns, steps_done, HaveTurns, IsStepDone, AreStepsDone}
 use Rattle.xn_model.specs.Rules.{Holds, IsCount}
 use Rattle.xn_model.proofs.Lists.{Contains-head, Contains-tail, has_number_at}
-use Rattle.xn_model.proofs.Lives.{freed_at}
+use Rattle.xn_model.proofs.Lives.{of_life, freed_at}
 use Rattle.xn_model.proofs.Reached.{in_range}
 use Rattle.xn_model.proofs.Tests.{safe_count_within}
 use Rattle.xn_model.proofs.Ends.{drops_at}
@@ -223,8 +223,7 @@ module _ (start : Lives) (v : World) (h : Holds v) (up : v.down ≡ false) (b : 
           let d = drops_at (take k l.pending) c (subst (λ xs. Contains xs c) first (has_number_at (drops_of (first_pending k (life_at lives b))) c t)) in
           let in' : Contains (carried l) d.0 = subst (λ o. Contains (first_states o l.pending) d.0) (sym begun) d.1 in
           let rest = (h.state.linked b l alive).resting d.0 c in' d.2 in
-          let same : rest.life ≡ m = same_Some rest.life m (sym rest.alive ∙ e) in
-          let none : length m.pending ≡ 0 = ap length (ap (λ (x : Life). x.pending) (sym same) ∙ rest.nothing) in
+          let none : length m.pending ≡ 0 = ap length (of_life rest m e) in
           absurd (omega arith))
 
   pub step_done : (n : ℕ) → n < 4 → Stands n least v b → StepDone start n b v

@@ -40,7 +40,7 @@ module _ (T more : Types) (state : StoreState) (h : IsConsistent T state) (grows
   back b l e m p n = subst (λ (f : List ℕ → List (ℕ × ℕ)). Contains (f m) p) (same b l e) n
 
   template_more : (c : ℕ) → IsTemplate T state.lives c → IsTemplate more state.lives c
-  template_more c t = record { life = t.life; alive = t.alive; nobody = t.nobody; ty = t.ty; state = t.state; only = t.only; bytes = ap (λ f. f t.state.bytes) grows.template ∙ t.bytes }
+  template_more c t = record { life = t.life; alive = t.alive; holds = (t.holds.0, t.holds.1, t.holds.2, t.holds.3, ap (λ f. f t.holds.2.bytes) grows.template ∙ t.holds.4) }
 
   sound_more : (b : ℕ) (l : Life) → life_at state.lives b ≡ Some l → IsSoundLife more state.lives b l
   sound_more b l e =
@@ -83,7 +83,7 @@ module _ (T more : Types) (state : StoreState) (h : IsConsistent T state) (grows
   exact_more : HasExactStatuses more state.lives
   exact_more = record {
     owned = λ b l a e s. let o = h.statuses.owned b l a e s in
-        record { life = o.life; alive = o.alive; names = named_fewer T more o.life.ty (same a o.life o.alive) (newest o.life) (b, l.ty) o.names };
+        record { life = o.life; alive = o.alive; holds = named_fewer T more o.life.ty (same a o.life o.alive) (newest o.life) (b, l.ty) o.holds };
     emptied = λ b l a p e s n. h.statuses.emptied b l a p e s (named_more T more l.ty (same b l e) (newest l) p n);
   }
 

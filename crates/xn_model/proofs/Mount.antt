@@ -81,7 +81,7 @@ module _ (L : Language) (image : List (List ℕ)) (sound : IsSound (types_in L (
       record {
         life = life.0;
         alive = life.1;
-        same = elim o.5 [
+        holds = elim o.5 [
           | inl other ↦ other.1.2 ∙ ap (λ (y : Life). y.fs) (same_Some other.1.0 l (sym other.1.1 ∙ (ap (life_at lives) owner ∙ e)))
           | inr rest ↦ elim rest [ inl none ↦ absurd (ne (sym owner ∙ none.0)) | inr some ↦ absurd (ne (sym owner ∙ some.0)) ]
         ];
@@ -95,10 +95,10 @@ module _ (L : Language) (image : List (List ℕ)) (sound : IsSound (types_in L (
   held_rest c l e = record {
     fit = λ s i. subst (λ (x : BlockState). IsTrue (fits T l.ty x.bytes)) (sym (only_state (block_of image c) s i)) (sound.fit c l.ty (rec'.only c l e).reached);
     named = λ s x u i n. let t = target c l e x u (subst (λ (y : BlockState). Contains (T.owned l.ty y.bytes) (x, u)) (only_state (block_of image c) s i) n) in
-        record { life = t.0; alive = t.1; ty = t.2; by = let p : IsBy c (Owned c) = refl in subst (IsBy c) (sym t.3) p };
+        record { life = t.0; alive = t.1; holds = (t.2, let p : IsBy c (Owned c) = refl in subst (IsBy c) (sym t.3) p) };
     same_system = λ s x u ne i n. target_system c l e ne x u (subst (λ (y : BlockState). Contains (T.owned l.ty y.bytes) (x, u)) (only_state (block_of image c) s i) n);
     ready = λ s x u i n. let t = target c l e x u (subst (λ (y : BlockState). Contains (T.owned l.ty y.bytes) (x, u)) (only_state (block_of image c) s i) n) in
-        record { life = t.0; alive = t.1; state = on_disk (block_of image x); durable = (rec'.only x t.0 t.1).durable };
+        record { life = t.0; alive = t.1; holds = (on_disk (block_of image x), (rec'.only x t.0 t.1).durable) };
     typed = λ s x u ne i n. let t = target c l e x u (subst (λ (y : BlockState). Contains (T.owned l.ty y.bytes) (x, u)) (only_state (block_of image c) s i) n) in
         ap (λ m. has_type m u) root_bytes ∙ installed_has L (block_of image) u (sound.types c l.ty x u (rec'.only c l e).reached (subst (λ (y : BlockState). Contains (T.owned l.ty y.bytes) (x, u)) (only_state (block_of image c) s i) n)).1;
     rising = tt;
@@ -108,7 +108,7 @@ module _ (L : Language) (image : List (List ℕ)) (sound : IsSound (types_in L (
   kept_rest c l e = record {
     last = on_disk (block_of image c);
     is_last = refl;
-    owned = λ x u n. let t = target c l e x u n in record { life = t.0; alive = t.1; status = t.3 };
+    owned = λ x u n. let t = target c l e x u n in record { life = t.0; alive = t.1; holds = t.3 };
     installed = reached_installed c l.ty (rec'.only c l e).reached;
     root_alone = λ z. elim (cases_eq c 0) [
       | inl same ↦ same
@@ -143,21 +143,18 @@ module _ (L : Language) (image : List (List ℕ)) (sound : IsSound (types_in L (
       let low : 1 ≤ c = (sound.range 0 root_life.0.ty c u root_rec.reached named).0 in
       let o = r.owner (λ z. omega arith) in
       let by_root : o.0 ≡ 0 = same_owner 0 root_life.0.ty c u o.0 o.1 root_rec.reached named o.3 t.0.ty o.4 in
+      let nobody : t.0.fs ≡ None = elim o.5 [
+        | inl other ↦ absurd (other.0 by_root)
+        | inr rest ↦ elim rest [
+          | inl none ↦ none.2
+          | inr some ↦ absurd (templates_apart (block_of image 0) c u (slot (block_of image 0) some.1.0).1 root_once n
+              (roots_from (block_of image 0) some.1.0 c (slot (block_of image 0) some.1.0).1 some.1.1 (λ i. (some.1.2 i, (slot (block_of image 0) some.1.0).1)) (λ z. omega arith)))
+        ]
+      ] in
       record {
         life = t.0;
         alive = t.1;
-        nobody = elim o.5 [
-          | inl other ↦ absurd (other.0 by_root)
-          | inr rest ↦ elim rest [
-            | inl none ↦ none.2
-            | inr some ↦ absurd (templates_apart (block_of image 0) c u (slot (block_of image 0) some.1.0).1 root_once n
-                (roots_from (block_of image 0) some.1.0 c (slot (block_of image 0) some.1.0).1 some.1.1 (λ i. (some.1.2 i, (slot (block_of image 0) some.1.0).1)) (λ z. omega arith)))
-          ]
-        ];
-        ty = t.2 ∙ template_type (block_of image 0) c u n;
-        state = on_disk (block_of image c);
-        only = ap states (sym (life_is c t.0 r));
-        bytes = (sound.templates c u n).1;
+        holds = (nobody, t.2 ∙ template_type (block_of image 0) c u n, on_disk (block_of image c), ap states (sym (life_is c t.0 r)), (sound.templates c u n).1);
       }
 
   -- what root slot i names is of file system i
@@ -175,7 +172,7 @@ module _ (L : Language) (image : List (List ℕ)) (sound : IsSound (types_in L (
       record {
         life = t.0;
         alive = t.1;
-        same = elim o.5 [
+        holds = elim o.5 [
           | inl other ↦ absurd (other.0 by_root)
           | inr rest ↦ elim rest [
             | inl none ↦ absurd (templates_apart m c none.1.0 u root_once none.1.1 listed)
@@ -239,7 +236,7 @@ module _ (L : Language) (image : List (List ℕ)) (sound : IsSound (types_in L (
           let q = rec'.only o.0 m.0 m.1 in
           let named : NamedIn T m.0.ty (newest m.0) (c, l.ty) =
           subst (λ (x : Life). NamedIn T x.ty (newest x) (c, l.ty)) (life_is o.0 m.0 q) (subst (λ t. Contains (T.owned t (block_of image o.0)) (c, l.ty)) (sym m.2) o.4) in
-          subst (λ b. IsNamer T lives b c l.ty) same (record { life = m.0; alive = m.1; names = named })
+          subst (λ b. IsNamer T lives b c l.ty) same (record { life = m.0; alive = m.1; holds = named })
     ];
     emptied = λ c l a p e s n. elim (cases_eq c 0) [
       | inl z ↦ let q : Fresh ≡ Dropped a = sym ((rec'.only c l e).root z).0 ∙ s in absurd cc
@@ -252,11 +249,11 @@ module _ (L : Language) (image : List (List ℕ)) (sound : IsSound (types_in L (
 
   -- each reached block is owned by the block by which it is reached
   chain_reached : (c u : ℕ) → Reach T (length image) (block_of image) c u → HasChain lives c
-  chain_reached c u root = alone lives 0 (record { life = root_life.0; alive = root_life.1; status = (root_rec.root refl).0 })
+  chain_reached c u root = alone lives 0 (record { life = root_life.0; alive = root_life.1; holds = (root_rec.root refl).0 })
   chain_reached c u (step {b} {t} r lt inst names) =
       let owner = rec'.all b t r in
       let x = target b owner.0 owner.1 c u (subst (λ y. Contains (T.owned y (block_of image b)) (c, u)) (sym owner.2) names) in
-      below lives b c (record { life = x.0; alive = x.1; status = x.3 }) (chain_reached b t r)
+      below lives b c (record { life = x.0; alive = x.1; holds = x.3 }) (chain_reached b t r)
 
   chains_recovered : ChainsEnd lives
   chains_recovered c l e in_use = chain_ends lives c (chain_reached c l.ty (rec'.only c l e).reached)

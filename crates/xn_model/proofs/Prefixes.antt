@@ -3,7 +3,7 @@ use Rattle.std.proofs.Common.{◌≡◌, ℕ, zero, suc, ◌≤◌, Bool, true, 
 use Rattle.std.specs.Prelude.{Contains, ◌==◌, is_some, option_map, option_to_list, slice_get, Ok, ◌≢◌}
 use Rattle.std.specs.List.{list_all, list_any, last_or}
 use Rattle.std.proofs.lemmas.Bool.{cond_both, and_from, and_parts, or_cases, or_left, or_right, not-true, false_from_ne_true, false≢true, ne_eqb, cond-false}
-use Rattle.std.proofs.lemmas.Option.{same_Some, none-some}
+use Rattle.std.proofs.lemmas.Option.{none-some}
 use Rattle.std.proofs.lemmas.List.Elements.{Contains-append_left, Contains-append_right}
 use Rattle.xn_model.specs.Lists.{has_number, blocks_of, types_of_pairs}
 use Rattle.xn_model.specs.Root.{has_type}
@@ -16,7 +16,7 @@ use Rattle.xn_model.specs.Worlds.{World, types_now, Event, Client, Install, Cras
 use Rattle.xn_model.specs.Waves.{IsStepOf}
 use Rattle.xn_model.specs.Rules.{Holds, IsConsistent, IsRootLife, IsDroppedBy, IsAtRest, PointersStay}
 use Rattle.xn_model.proofs.Lists.{Contains-head, Contains-tail, Contains-none, Contains-drop, Contains-take, all_at, any_at, any_from, blocks_of_at, has_number_at}
-use Rattle.xn_model.proofs.Lives.{freed_at, length_change}
+use Rattle.xn_model.proofs.Lives.{of_life, freed_at, length_change}
 use Rattle.xn_model.proofs.Catalogue.{has_keeps, pointers_last, pointers_taken, on_disk_is}
 use Rattle.xn_model.proofs.Tests.{map_ok}
 use Rattle.xn_model.proofs.Least.{all_from, list_life}
@@ -115,9 +115,7 @@ module _ (T : Types) (state : StoreState) (h : IsConsistent T state) (c k : ℕ)
   root_stays : has_number drops 0 ≡ false
   root_stays = false_from_ne_true (has_number drops 0) (λ t.
       let r = h.lives_sound.root in
-      let d = gone 0 (has_number_at drops 0 t) in
-      let same : d.life ≡ r.life = same_Some d.life r.life (sym d.alive ∙ r.alive) in
-      let both : Dropped c ≡ Fresh = sym d.status ∙ (ap (λ (m : Life). m.status) same ∙ r.unowned) in
+      let both : Dropped c ≡ Fresh = sym (of_life (gone 0 (has_number_at drops 0 t)) r.life r.alive) ∙ r.unowned in
       absurd cc)
 
   types_more : (u : ℕ) → has_type (root_on_disk lives) u ≡ true → has_type (root_on_disk L) u ≡ true
@@ -142,18 +140,14 @@ module _ (T : Types) (state : StoreState) (h : IsConsistent T state) (c k : ℕ)
     added : (s : BlockState) (x : ℕ) → Contains l.pending s → Contains (blocks_of s.adds) x → has_number drops x ≡ false
     added s x i j = false_from_ne_true (has_number drops x) (λ t.
         let p = blocks_of_at s.adds x j in
-        let d = gone x (has_number_at drops x t) in
         let names = (h.waits.adds b l s x p.0 alive i p.1).0 in
         let by = (h.lives_sound.each b l alive).named s x p.0 (Contains-append_right (option_to_list l.durable) l.pending s i) names in
-        let same : by.life ≡ d.life = same_Some by.life d.life (sym by.alive ∙ d.alive) in
-        other (by_dropped b c by.life.status (ap (λ (m : Life). m.status) same ∙ d.status) by.by))
+        other (by_dropped b c by.life.status (of_life (gone x (has_number_at drops x t)) by.life by.alive) by.holds.1))
 
     dropped : (s : BlockState) (x : ℕ) → Contains l.pending s → Contains s.drops x → has_number drops x ≡ false
     dropped s x i j = false_from_ne_true (has_number drops x) (λ t.
-        let d = gone x (has_number_at drops x t) in
         let e = (h.linked b l alive).dropped s x i j in
-        let same : e.life ≡ d.life = same_Some e.life d.life (sym e.alive ∙ d.alive) in
-        other (dropped_once b c e.life.status (ap (λ (m : Life). m.status) same ∙ d.status) e.status))
+        other (dropped_once b c e.life.status (of_life (gone x (has_number_at drops x t)) e.life e.alive) e.holds))
 
     after_more : (earlier : List BlockState) (o : Option ℕ) → is_after_met lives earlier o ≡ true → is_after_met L earlier o ≡ true
     after_more earlier None e = refl
@@ -197,9 +191,7 @@ module _ (T : Types) (state : StoreState) (h : IsConsistent T state) (c k : ℕ)
       go : (o : Option Life) → life_at lives b ≡ o → (d : Bool) → has_number drops b ≡ d → prefix_of lives o ≤ prefix L b
       go None e d f = omega arith
       go (Some l) e true f =
-          let r = rests b (has_number_at drops b f) in
-          let same : r.life ≡ l = same_Some r.life l (sym r.alive ∙ e) in
-          subst (λ xs. safe_count lives l.ty [] xs ≤ prefix L b) (sym (ap (λ (m : Life). m.pending) (sym same) ∙ r.nothing)) (omega arith)
+          subst (λ xs. safe_count lives l.ty [] xs ≤ prefix L b) (sym (of_life (rests b (has_number_at drops b f)) l e)) (omega arith)
       go (Some l) e false f =
           let now : life_at L b ≡ Some l = stays b f ∙ (cond-false (c == b) (option_map (settle k) (life_at lives b)) (life_at lives b) (ne_eqb c b (λ x. other (sym x))) ∙ e) in
           subst (λ o. prefix_of lives (Some l) ≤ prefix_of L o) (sym now) (count_more b other l e [] l.pending (λ s i. i))

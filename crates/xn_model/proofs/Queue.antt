@@ -10,8 +10,8 @@ use Rattle.xn_model.specs.Root.{has_type}
 use Rattle.xn_model.specs.Rules.{IsBy, IsOlder, IsOlderType, IsRootLife, PointersStay, WaitsForOlder}
 use Rattle.xn_model.proofs.Changes.{each, free, with_begun, settled}
 use Rattle.xn_model.proofs.Lists.{Contains-none, Contains-head, Contains-tail, Contains-cons, Contains-drop}
-use Rattle.xn_model.proofs.Lives.{each_forth, each_back, free_forth, free_back}
-use Rattle.xn_model.proofs.Carry.{settled_if, settled_types}
+use Rattle.xn_model.proofs.Lives.{each_back, at_each, at_free, free_back}
+use Rattle.xn_model.proofs.Carry.{still_some, settled_if, settled_types}
 
 -- A life with fewer pending states, those that left being on the disk
 pub record Shrinks (old new : Life) : Type 0 where
@@ -25,14 +25,10 @@ module _ (T : Types) (lives : Lives) (g : ℕ → Life → Life) (shrinks : (c :
   older_each : (c n : ℕ) → IsOlder lives c n → IsOlder (each g lives) c n
   older_each c n o =
       let sh = shrinks c o.life o.alive in
-      record {
-        life = g c o.life;
-        alive = each_forth g lives c o.life o.alive;
-        older = elim o.older [
-          | inl d ↦ inl (sh.stored d.0 d.1)
-          | inr t ↦ elim (sh.leaves t.0 t.1) [ inl d ↦ inl d | inr p ↦ inr (t.0, p, t.2) ]
-        ];
-      }
+      at_each g o (elim o.holds [
+        | inl d ↦ inl (sh.stored d.0 d.1)
+        | inr t ↦ elim (sh.leaves t.0 t.1) [ inl d ↦ inl d | inr p ↦ inr (t.0, p, t.2) ]
+      ])
 
   -- a pending state after it was one before
   was_pending : (c : ℕ) (m : Life) (s : BlockState) → life_at (each g lives) c ≡ Some m → Contains m.pending s → (l : Life) × (life_at lives c ≡ Some l) × (m ≡ g c l) × Contains l.pending s
@@ -51,20 +47,12 @@ module _ (T : Types) (lives : Lives) (g : ℕ → Life → Life) (shrinks : (c :
 pub begun_shrinks : (b : ℕ) (k : Option ℕ) (c : ℕ) (l : Life) → Shrinks l (with_begun b k c l)
 begun_shrinks b k c l = record { ty = refl; status = refl; fewer = λ t i. i; stored = λ s e. (s, e); leaves = λ t i. inr i }
 
-last_is_some : (o : Option BlockState) (s : BlockState) (xs : List BlockState) → o ≡ Some s → (r : BlockState) × (last_or o xs ≡ Some r)
-last_is_some o s [] e = (s, e)
-last_is_some o s (x ∷ xs) e = last_is_some (Some x) x xs refl
-
 pub begun_types : (b : ℕ) (k : Option ℕ) (lives : Lives) (u n : ℕ) → IsOlderType lives u n → IsOlderType (each (with_begun b k) lives) u n
-begun_types b k lives u n o = record { life = with_begun b k 0 o.life; alive = each_forth (with_begun b k) lives 0 o.life o.alive; older = o.older }
+begun_types b k lives u n o = at_each (with_begun b k) o o.holds
 
 -- a pending state that settles leaves its types on the disk
 pub settled_older : (T : Types) (b k : ℕ) (lives : Lives) → IsRootLife T lives → (u n : ℕ) → IsOlderType lives u n → IsOlderType (each (settled b k) lives) u n
-settled_older T b k lives root u n o = record {
-  life = settled b k 0 o.life;
-  alive = each_forth (settled b k) lives 0 o.life o.alive;
-  older = go (eqb 0 b);
-}
+settled_older T b k lives root u n o = at_each (settled b k) o (go (eqb 0 b))
   where
     rule : PointersStay (states o.life)
     rule = subst (λ x. PointersStay (states x)) (same_Some root.life o.life (sym root.alive ∙ o.alive)) root.pointers
@@ -73,10 +61,10 @@ settled_older T b k lives root u n o = record {
     Older l = ((s : BlockState) × (l.durable ≡ Some s) × IsTrue (has_type s.bytes u)) ⊎ ((t : BlockState) × Contains l.pending t × (t.entry < n) × IsTrue (has_type t.bytes u))
 
     go : (t : Bool) → Older (settled_if t k o.life)
-    go false = o.older
-    go true = elim o.older [
+    go false = o.holds
+    go true = elim o.holds [
       | inl d ↦
-          let r = last_is_some o.life.durable d.0 (take k o.life.pending) d.1 in
+          let r = still_some o.life.durable d.0 (take k o.life.pending) d.1 in
           inl (
             r.0,
             r.1,
@@ -101,16 +89,16 @@ settled_older T b k lives root u n o = record {
 
         some_last : (o : Option BlockState) (xs : List BlockState) (t : BlockState) → Contains xs t → (r : BlockState) × (last_or o xs ≡ Some r)
         some_last o [] t i = absurd (Contains-none t i)
-        some_last o (x ∷ xs) t i = last_is_some (Some x) x xs refl
+        some_last o (x ∷ xs) t i = still_some (Some x) x xs refl
 
 -- the first states that settle leave one
 first_settles : (o : Option BlockState) (k : ℕ) (xs : List BlockState) (t : BlockState) → 1 ≤ k → Contains xs t → (r : BlockState) × (last_or o (take k xs) ≡ Some r)
 first_settles o zero xs t le i = absurd (omega arith)
 first_settles o (suc k) [] t le i = absurd (Contains-none t i)
-first_settles o (suc k) (x ∷ xs) t le i = last_is_some (Some x) x (take k xs) refl
+first_settles o (suc k) (x ∷ xs) t le i = still_some (Some x) x (take k xs) refl
 
 settled_shrinks_if : (t : Bool) (k : ℕ) (l : Life) → 1 ≤ k → Shrinks l (settled_if t k l)
-settled_shrinks_if true k l le = record { ty = refl; status = refl; fewer = λ t i. Contains-drop k l.pending t i; stored = λ s e. last_is_some l.durable s (take k l.pending) e; leaves = λ t i. inl (first_settles l.durable k l.pending t le i) }
+settled_shrinks_if true k l le = record { ty = refl; status = refl; fewer = λ t i. Contains-drop k l.pending t i; stored = λ s e. still_some l.durable s (take k l.pending) e; leaves = λ t i. inl (first_settles l.durable k l.pending t le i) }
 settled_shrinks_if false k l le = record { ty = refl; status = refl; fewer = λ t i. i; stored = λ s e. (s, e); leaves = λ t i. inr i }
 
 pub settled_shrinks : (b k : ℕ) → 1 ≤ k → (c : ℕ) (l : Life) → Shrinks l (settled b k c l)
@@ -121,9 +109,8 @@ pub queued_free : (T : Types) (lives : Lives) (blocks : List ℕ) → ((c : ℕ)
     (Contains blocks 0 → ⊥) → WaitsForOlder T lives → WaitsForOlder T (free blocks lives)
 queued_free T lives blocks unnamed not_root q = record {
   adds = λ b l s c u e i a. let f = (free_back blocks lives b l e).1 in let x = q.adds b l s c u f i a in
-      (x.0, record { life = x.1.life; alive = free_forth blocks lives c x.1.life (λ k. unnamed c k b l s u f i x.0) x.1.alive; older = x.1.older });
-  types = λ b l s c u e i a. let o = q.types b l s c u (free_back blocks lives b l e).1 i a in
-      record { life = o.life; alive = free_forth blocks lives 0 o.life not_root o.alive; older = o.older };
+      (x.0, at_free blocks (λ k. unnamed c k b l s u f i x.0) x.1);
+  types = λ b l s c u e i a. at_free blocks not_root (q.types b l s c u (free_back blocks lives b l e).1 i a);
   drops = λ b l s c m t e i d f j. q.drops b l s c m t (free_back blocks lives b l e).1 i d (free_back blocks lives c m f).1 j;
   after = λ b l s n e i a. q.after b l s n (free_back blocks lives b l e).1 i a;
   apart = λ b l e by. q.apart b l (free_back blocks lives b l e).1 by;

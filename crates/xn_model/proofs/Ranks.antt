@@ -15,6 +15,7 @@ use Rattle.xn_model.specs.Calls.{is_ready}
 use Rattle.xn_model.specs.Worlds.{World, types_now, world_after, all_pending}
 use Rattle.xn_model.specs.Waves.{can_begin, ready_blocks, IsWave, wave, waves_for, waves, WaitsFor, ForAdded, ForDropped, ForType, ForEarlier, IsBefore, IsChain, Alone, Later, Behind, IsRanking, all_done, all_drops, Done, life_then, IsAfterWave}
 use Rattle.xn_model.specs.Rules.{Holds, IsConsistent, IsRootLife, PointersStay, IsIdle, Rises}
+use Rattle.xn_model.proofs.Lives.{of_life, of_root}
 use Rattle.xn_model.proofs.Lists.{Contains-head, Contains-tail, Contains-none, Contains-cons, Contains-drop, any_at, any_from, blocks_of_at, has_number_at, has_number_from}
 use Rattle.xn_model.proofs.Tests.{safe_count_within}
 use Rattle.xn_model.proofs.Catalogue.{on_disk_is}
@@ -95,7 +96,7 @@ module _ (T : Types) (state : StoreState) (h : IsConsistent T state) where
     added s c u i j none =
         let o = (h.waits.adds b l s c u alive i j).1 in
         let fresh : is_some o.life.durable ≡ false = sym (ap (alive_and (λ m. is_some m.durable)) o.alive) ∙ none in
-        elim o.older [
+        elim o.holds [
           | inl d ↦ absurd (true≢false (sym (ap is_some d.1) ∙ fresh))
           | inr t ↦ go o.life o.alive o.life.durable refl fresh o.life.pending refl t.0 t.1
         ]
@@ -134,13 +135,13 @@ module _ (T : Types) (state : StoreState) (h : IsConsistent T state) where
     typed : (earlier xs : List BlockState) (s : BlockState) (x u : ℕ) → l.pending ≡ earlier ++ s ∷ xs → Contains l.pending s → Contains s.adds (x, u) → is_type_met lives l.ty earlier u ≡ false → Awaits lives b s
     typed earlier xs s x u split i j f =
         let o = h.waits.types b l s x u alive i j in
-        elim o.older [
+        elim o.holds [
           | inl d ↦ absurd (false≢true (sym missing ∙ (ap (λ m. has_type m u) (on_disk_is lives o.life d.0 o.alive d.1) ∙ d.2)))
           | inr t ↦ elim (cases_eq b 0) [
             | inl root ↦
                 let same : o.life ≡ l = same_Some o.life l (sym o.alive ∙ (ap (life_at lives) (sym root) ∙ alive)) in
                 let before = stands_earlier earlier xs s t.0 split (subst (λ (m : Life). Contains m.pending t.0) same t.1) t.2 in
-                let ty : l.ty ≡ 0 = ap (λ (m : Life). m.ty) (same_Some l h.lives_sound.root.life (sym alive ∙ (ap (life_at lives) root ∙ h.lives_sound.root.alive))) ∙ h.lives_sound.root.ty in
+                let ty : l.ty ≡ 0 = (of_root h.lives_sound.root l (ap (life_at lives) (sym root) ∙ alive)).0 in
                 let early : ((l.ty == 0) && list_any (λ y. has_type y.bytes u) earlier) ≡ true =
                 and_from (l.ty == 0) (list_any (λ y. has_type y.bytes u) earlier) (eq-eqb l.ty 0 ty) (any_from (λ (y : BlockState). has_type y.bytes u) earlier t.0 before t.3) in
                 absurd (true≢false (sym (or_right (has_type (root_on_disk lives) u) ((l.ty == 0) && list_any (λ y. has_type y.bytes u) earlier) early) ∙ f))
@@ -448,22 +449,18 @@ entries_rank T state h = record {
   where
     go : (b : ℕ) (l : Life) (s : BlockState) (c : ℕ) (t : BlockState) → life_at state.lives b ≡ Some l → Contains l.pending s → WaitsFor state.lives b s c t → t.entry < s.entry
     go b l s c t e i (ForAdded u m states j f d p) =
-        let o = (h.waits.adds b l s c u e i j).1 in
-        let same : o.life ≡ m = same_Some o.life m (sym o.alive ∙ f) in
-        elim o.older [
-          | inl x ↦ absurd (none-some x.0 (sym d ∙ (ap (λ (y : Life). y.durable) (sym same) ∙ x.1)))
+        elim (of_life (h.waits.adds b l s c u e i j).1 m f) [
+          | inl x ↦ absurd (none-some x.0 (sym d ∙ x.1))
           | inr x ↦
               let all : Rises (t ∷ states) = rises_later (option_to_list m.durable) (t ∷ states) (subst (λ ys. Rises (option_to_list m.durable ++ ys)) p (h.lives_sound.each c m f).rising) in
-              let le = rises_first t states x.0 all (subst (λ ys. Contains ys x.0) (ap (λ (y : Life). y.pending) same ∙ p) x.1) in
+              let le = rises_first t states x.0 all (subst (λ ys. Contains ys x.0) p x.1) in
               let lt = x.2 in
               omega arith
         ]
     go b l s c t e i (ForType x u m front back j missing other root f split none has) =
-        let o = h.waits.types b l s x u e i j in
-        let same : o.life ≡ m = same_Some o.life m (sym o.alive ∙ f) in
-        elim o.older [
-          | inl d ↦ absurd (false≢true (sym missing ∙ (ap (λ n. has_type n u) (on_disk_is state.lives o.life d.0 o.alive d.1) ∙ d.2)))
-          | inr d ↦ elim (Contains-append_cases front (t ∷ back) d.0 (subst (λ ys. Contains ys d.0) (ap (λ (y : Life). y.pending) same ∙ split) d.1)) [
+        elim (of_life (h.waits.types b l s x u e i j) m f) [
+          | inl d ↦ absurd (false≢true (sym missing ∙ (ap (λ n. has_type n u) (on_disk_is state.lives m d.0 f d.1) ∙ d.2)))
+          | inr d ↦ elim (Contains-append_cases front (t ∷ back) d.0 (subst (λ ys. Contains ys d.0) split d.1)) [
             | inl early ↦ absurd (false≢true (sym none ∙ any_from (λ (y : BlockState). has_type y.bytes u) front d.0 early d.3))
             | inr late ↦
                 let all : Rises (t ∷ back) = rises_later front (t ∷ back)

@@ -3,7 +3,7 @@ use Rattle.std.proofs.Common.{◌≡◌, ℕ, zero, suc, ◌<◌, ◌≤◌, ◌
 use Rattle.std.specs.Prelude.{Contains, IsTrue, option_to_list}
 use Rattle.std.specs.List.{last_or}
 use Rattle.std.proofs.lemmas.Bool.{and_parts}
-use Rattle.std.proofs.lemmas.Option.{same_Some, none-some}
+use Rattle.std.proofs.lemmas.Option.{none-some}
 use Rattle.std.proofs.lemmas.List.{get_or_default, length-map}
 use Rattle.std.proofs.lemmas.Bool.{cases_lt, cases_eq}
 use Rattle.std.proofs.lemmas.List.Elements.{Contains-append_cases, Contains-append_left, Contains-append_right, Contains-get_or}
@@ -14,8 +14,8 @@ use Rattle.xn_model.specs.Languages.{Language, types_in, language_template}
 use Rattle.xn_model.specs.Images.{Reach, root, step, Owns, HasOneOwner, IsSound}
 use Rattle.xn_model.specs.Lives.{BlockState, Status, Fresh, Owned, Dropped, Life, Lives, life_at, states, carried, first_states, bytes_of, root_on_disk, StoreState}
 use Rattle.xn_model.specs.Calls.{types_of, latest, life_bytes}
-use Rattle.xn_model.specs.Rules.{HoldsState, Agrees, IsBy, BelongsTo, IsTemplate, IsRootLife, PointersStay, IsConsistent, ArePlaced}
-use Rattle.xn_model.proofs.Lives.{past}
+use Rattle.xn_model.specs.Rules.{At, IsCount, HoldsState, Agrees, IsBy, BelongsTo, IsTemplate, IsRootLife, PointersStay, IsConsistent, ArePlaced}
+use Rattle.xn_model.proofs.Lives.{past, of_life}
 use Rattle.xn_model.proofs.RootBytes.{template_owned, templates_from}
 use Rattle.xn_model.proofs.Catalogue.{has_built_in, has_keeps, pointers_first, pointers_last, on_disk_is}
 use Rattle.xn_model.proofs.Languages.{same_template, same_installed, same_owned, same_size, same_templates, fits_same}
@@ -37,12 +37,8 @@ among_states l s h = elim (Contains-append_cases (option_to_list l.durable) (car
 ]
 
 -- a block with a state on the disk, of a type
-pub record IsStored (lives : Lives) (c u : ℕ) : Type 0 where
-  pub life : Life
-  pub alive : life_at lives c ≡ Some life
-  pub ty : life.ty ≡ u
-  pub state : BlockState
-  pub durable : life.durable ≡ Some state
+abbrev pub IsStored : (lives : Lives) (c u : ℕ) → Type 0
+IsStored lives c u = At lives c (λ life. (life.ty ≡ u) × (s : BlockState) × (life.durable ≡ Some s))
 
 pub durable_in : (l : Life) (s : BlockState) → l.durable ≡ Some s → Contains (option_to_list l.durable ++ carried l) s
 durable_in l s e = Contains-append_left (option_to_list l.durable) (carried l) s (subst (λ o. Contains (option_to_list o) s) (sym e) (Contains-head s []))
@@ -50,6 +46,11 @@ durable_in l s e = Contains-append_left (option_to_list l.durable) (carried l) s
 pub positive : (n : ℕ) → (n ≡ 0 → ⊥) → 1 ≤ n
 positive zero ne = absurd (ne refl)
 positive (suc n) ne = omega arith
+
+-- with nothing pending no write is begun
+pub idle_at_rest : (o : Option ℕ) (n : ℕ) → n ≡ 0 → IsCount o n → o ≡ None
+idle_at_rest None n e i = refl
+idle_at_rest (Some j) n e i = let lo = i.0 in let hi = i.1 in absurd (omega arith)
 
 -- blocks that are alive are on the disk
 pub in_range : (T : Types) (state : StoreState) → IsConsistent T state → (c : ℕ) (l : Life) → life_at state.lives c ≡ Some l → c < length state.lives
@@ -68,9 +69,9 @@ module _ (L : Language) (state : StoreState) (h : IsConsistent (types_of L state
 
   -- the disk holds the durable state or the begun one
   holds_state : (c u : ℕ) → IsStored state.lives c u → HoldsState content state.lives c u
-  holds_state c u k = elim (placed c k.life k.state k.alive k.durable) [
-    | inl e ↦ record { life = k.life; alive = k.alive; ty = k.ty; state = k.state; among = durable_in k.life k.state k.durable; there = e }
-    | inr f ↦ record { life = k.life; alive = k.alive; ty = k.ty; state = f.0; among = Contains-append_right (option_to_list k.life.durable) (carried k.life) f.0 (last_is_in (carried k.life) f.0 f.1); there = f.2 }
+  holds_state c u k = elim (placed c k.life k.holds.1 k.alive k.holds.2) [
+    | inl e ↦ record { life = k.life; alive = k.alive; holds = (k.holds.0, k.holds.1, durable_in k.life k.holds.1 k.holds.2, e) }
+    | inr f ↦ record { life = k.life; alive = k.alive; holds = (k.holds.0, f.0, Contains-append_right (option_to_list k.life.durable) (carried k.life) f.0 (last_is_in (carried k.life) f.0 f.1), f.2) }
   ]
 
   -- block 0
@@ -79,19 +80,13 @@ module _ (L : Language) (state : StoreState) (h : IsConsistent (types_of L state
   root_rule = h.lives_sound.root
 
   root_stored : IsStored state.lives 0 0
-  root_stored = record { life = root_rule.life; alive = root_rule.alive; ty = root_rule.ty; state = root_rule.state; durable = root_rule.durable }
+  root_stored = record { life = root_rule.life; alive = root_rule.alive; holds = (root_rule.ty, root_rule.state, root_rule.durable) }
 
-  root_holds : HoldsState content state.lives 0 0
-  root_holds = holds_state 0 0 root_stored
+  root_holds : (s : BlockState) × Contains (option_to_list root_rule.life.durable ++ carried root_rule.life) s × (content 0 ≡ s.bytes)
+  root_holds = let s = of_life (holds_state 0 0 root_stored) root_rule.life root_rule.alive in (s.1, s.2, s.3)
 
-  root_same : (s : HoldsState content state.lives 0 0) → s.life ≡ root_rule.life
-  root_same s = same_Some s.life root_rule.life (sym s.alive ∙ root_rule.alive)
-
-  root_among : (s : HoldsState content state.lives 0 0) → Contains (option_to_list root_rule.life.durable ++ carried root_rule.life) s.state
-  root_among s = subst (λ (l : Life). Contains (option_to_list l.durable ++ carried l) s.state) (root_same s) s.among
-
-  root_state : (s : HoldsState content state.lives 0 0) → Contains (states root_rule.life) s.state
-  root_state s = among_states root_rule.life s.state (root_among s)
+  root_state : Contains (states root_rule.life) root_holds.0
+  root_state = among_states root_rule.life root_holds.0 root_holds.1
 
   -- what block 0 has on the disk, the contents have
   pub has_there : (u : ℕ) → has_type (root_on_disk state.lives) u ≡ true → has_type (content 0) u ≡ true
@@ -99,8 +94,8 @@ module _ (L : Language) (state : StoreState) (h : IsConsistent (types_of L state
       let s = root_holds in
       let r = root_rule in
       let from : PointersStay (r.state ∷ r.life.pending) = subst (λ o. PointersStay (option_to_list o ++ r.life.pending)) r.durable r.pointers in
-      let at : Contains (r.state ∷ r.life.pending) s.state = subst (λ o. Contains (option_to_list o ++ r.life.pending) s.state) r.durable (root_state s) in
-      ap (λ m. has_type m u) s.there ∙ has_keeps r.state.bytes s.state.bytes u (pointers_first r.state r.life.pending from s.state at) (ap (λ m. has_type m u) (sym (on_disk_is state.lives r.life r.state r.alive r.durable)) ∙ has)
+      let at : Contains (r.state ∷ r.life.pending) s.0 = subst (λ o. Contains (option_to_list o ++ r.life.pending) s.0) r.durable (root_state) in
+      ap (λ m. has_type m u) s.2 ∙ has_keeps r.state.bytes s.0.bytes u (pointers_first r.state r.life.pending from s.0 at) (ap (λ m. has_type m u) (sym (on_disk_is state.lives r.life r.state r.alive r.durable)) ∙ has)
 
   -- a block with one state, which is on the disk, has that one newest, and the disk holds it
   one_there : (c : ℕ) (l : Life) (s d : BlockState) → life_at state.lives c ≡ Some l → states l ≡ s ∷ [] → l.durable ≡ Some d → (content c ≡ s.bytes) × (latest state.lives c ≡ s.bytes)
@@ -123,17 +118,17 @@ module _ (L : Language) (state : StoreState) (h : IsConsistent (types_of L state
       first_of d xs s e = elim (Contains-cons s [] d (subst (λ ys. Contains ys d) e (Contains-head d xs))) [ inl same ↦ sym same | inr none ↦ absurd (Contains-none d none) ]
 
   -- a template that the contents name stands there
-  template_there : (c u : ℕ) → Contains (templates_of (content 0)) (c, u) → (t : IsTemplate T state.lives c) × (content c ≡ t.state.bytes) × (latest state.lives c ≡ t.state.bytes)
+  template_there : (c u : ℕ) → Contains (templates_of (content 0)) (c, u) → (t : IsTemplate T state.lives c) × (content c ≡ t.holds.2.bytes) × (latest state.lives c ≡ t.holds.2.bytes)
   template_there c u n =
       let s = root_holds in
       let r = root_rule in
-      let at : Contains (templates_of s.state.bytes) (c, u) = subst (λ m. Contains (templates_of m) (c, u)) s.there n in
-      let t = r.templates s.state c u (root_state s) at in
-      let owns : Contains (T.owned r.life.ty s.state.bytes) (c, u) =
-      subst (λ y. Contains (T.owned y s.state.bytes) (c, u)) (sym r.ty) (subst (λ ps. Contains ps (c, u)) (sym (h.built_ins.root_owns s.state.bytes)) (template_owned s.state.bytes c u at)) in
-      let d = (h.lives_sound.each 0 r.life r.alive).ready s.state c u (root_among s) owns in
-      let same : d.life ≡ t.life = same_Some d.life t.life (sym d.alive ∙ t.alive) in
-      let x = one_there c t.life t.state d.state t.alive t.only (ap (λ (l : Life). l.durable) (sym same) ∙ d.durable) in
+      let at : Contains (templates_of s.0.bytes) (c, u) = subst (λ m. Contains (templates_of m) (c, u)) s.2 n in
+      let t = r.templates s.0 c u (root_state) at in
+      let owns : Contains (T.owned r.life.ty s.0.bytes) (c, u) =
+      subst (λ y. Contains (T.owned y s.0.bytes) (c, u)) (sym r.ty) (subst (λ ps. Contains ps (c, u)) (sym (h.built_ins.root_owns s.0.bytes)) (template_owned s.0.bytes c u at)) in
+      let d = (h.lives_sound.each 0 r.life r.alive).ready s.0 c u (s.1) owns in
+      let disk = of_life d t.life t.alive in
+      let x = one_there c t.life t.holds.2 disk.0 t.alive t.holds.3 disk.1 in
       (t, x.0, x.1)
 
   -- so the types of the contents are those of the lives that block 0 has there
@@ -145,8 +140,8 @@ module _ (L : Language) (state : StoreState) (h : IsConsistent (types_of L state
           let s = root_holds in
           let k = h.linked 0 root_rule.life root_rule.alive in
           let newest_is : latest state.lives 0 ≡ k.last.bytes = ap life_bytes root_rule.alive ∙ ap bytes_of k.is_last in
-          let keeps = pointers_last root_rule.life.durable root_rule.life.pending k.last root_rule.pointers k.is_last s.state (root_state s) in
-          ap (λ m. pointer m i) newest_is ∙ (keeps i lt (λ z. ne (ap (λ m. pointer m i) s.there ∙ z)) ∙ ap (λ m. pointer m i) (sym s.there))
+          let keeps = pointers_last root_rule.life.durable root_rule.life.pending k.last root_rule.pointers k.is_last s.0 (root_state) in
+          ap (λ m. pointer m i) newest_is ∙ (keeps i lt (λ z. ne (ap (λ m. pointer m i) s.2 ∙ z)) ∙ ap (λ m. pointer m i) (sym s.2))
 
       bytes_same : (i : ℕ) → i < 16 → pointer (content 0) i ≢ 0 → latest state.lives (pointer (content 0) i) ≡ content (pointer (content 0) i)
       bytes_same i lt ne = let x = template_there (pointer (content 0) i) 1 (templates_from (content 0) i (pointer (content 0) i) lt refl ne) in x.2 ∙ sym x.1
@@ -162,22 +157,20 @@ module _ (L : Language) (state : StoreState) (h : IsConsistent (types_of L state
   named_stored b t c u k names =
       let s = holds_state b t k in
       let each = h.lives_sound.each b s.life s.alive in
-      let at_state : Contains (T.owned s.life.ty s.state.bytes) (c, u) = rw (s.ty, ← s.there) names in
-      let disk = each.ready s.state c u s.among at_state in
-      let by = each.named s.state c u (among_states s.life s.state s.among) at_state in
-      let same : by.life ≡ disk.life = same_Some by.life disk.life (sym by.alive ∙ disk.alive) in (
-        record { life = disk.life; alive = disk.alive; ty = ap (λ (l : Life). l.ty) (sym same) ∙ by.ty; state = disk.state; durable = disk.durable },
-        (by, elim (cases_eq b 0) [ inl zero' ↦ of_root t k zero' names | inr ne ↦ has_there u (each.typed s.state c u ne s.among at_state) ]),
+      let at_state : Contains (T.owned s.life.ty s.holds.1.bytes) (c, u) = rw (s.holds.0, ← s.holds.3) names in
+      let disk = each.ready s.holds.1 c u s.holds.2 at_state in
+      let by = each.named s.holds.1 c u (among_states s.life s.holds.1 s.holds.2) at_state in (
+        record { life = disk.life; alive = disk.alive; holds = ((of_life by disk.life disk.alive).0, disk.holds.0, disk.holds.1) },
+        (by, elim (cases_eq b 0) [ inl zero' ↦ of_root t k zero' names | inr ne ↦ has_there u (each.typed s.holds.1 c u ne s.holds.2 at_state) ]),
       )
     where
       of_root : (t : ℕ) → IsStored state.lives b t → b ≡ 0 → Contains (T.owned t (content b)) (c, u) → has_type (content 0) u ≡ true
       of_root t k zero' names =
           let s = root_holds in
           let r = root_rule in
-          let same : k.life ≡ r.life = same_Some k.life r.life (sym k.alive ∙ (ap (life_at state.lives) zero' ∙ r.alive)) in
-          let ty : t ≡ 0 = sym k.ty ∙ (ap (λ (l : Life). l.ty) same ∙ r.ty) in
-          let at : Contains (T.owned 0 s.state.bytes) (c, u) = subst (λ m. Contains (T.owned 0 m) (c, u)) (ap content zero' ∙ s.there) (subst (λ y. Contains (T.owned y (content b)) (c, u)) ty names) in
-          ap (λ m. has_type m u) s.there ∙ r.types s.state c u (root_state s) (subst (λ ps. Contains ps (c, u)) (h.built_ins.root_owns s.state.bytes) at)
+          let ty : t ≡ 0 = sym (of_life k r.life (ap (life_at state.lives) zero' ∙ r.alive)).0 ∙ r.ty in
+          let at : Contains (T.owned 0 s.0.bytes) (c, u) = subst (λ m. Contains (T.owned 0 m) (c, u)) (ap content zero' ∙ s.2) (subst (λ y. Contains (T.owned y (content b)) (c, u)) ty names) in
+          ap (λ m. has_type m u) s.2 ∙ r.types s.0 c u root_state (subst (λ ps. Contains ps (c, u)) (h.built_ins.root_owns s.0.bytes) at)
 
   reached_has : (c u : ℕ) → Reach there (length state.lives) content c u → IsStored state.lives c u × (has_type (content 0) u ≡ true)
   reached_has c u root = (root_stored, has_built_in (content 0) 0 (omega arith))
@@ -194,7 +187,7 @@ module _ (L : Language) (state : StoreState) (h : IsConsistent (types_of L state
   reached_names b t c u r names = let k = reached_has b t r in named_stored b t c u k.0 (names_now t (content b) c u k.1 names)
 
   installed : (c u : ℕ) → IsStored state.lives c u → has_type (content 0) u ≡ true → IsTrue (there.installed u)
-  installed c u k has = same_installed L (latest state.lives) content u (template_same u has) ∙ subst (λ t. IsTrue (T.installed t)) k.ty (h.linked c k.life k.alive).installed
+  installed c u k has = same_installed L (latest state.lives) content u (template_same u has) ∙ subst (λ t. IsTrue (T.installed t)) k.holds.0 (h.linked c k.life k.alive).installed
 
   -- a type that is reached is one of both, and means the same
   pub reached_owned : (c u : ℕ) → Reach there (length state.lives) content c u → there.owned u ≡ T.owned u
@@ -203,14 +196,14 @@ module _ (L : Language) (state : StoreState) (h : IsConsistent (types_of L state
   pub reached_installed : (c u : ℕ) → Reach there (length state.lives) content c u → IsTrue (there.installed u) × IsTrue (T.installed u)
   reached_installed c u r =
       let k = reached_has c u r in
-      (installed c u k.0 k.1, subst (λ t. IsTrue (T.installed t)) k.0.ty (h.linked c k.0.life k.0.alive).installed)
+      (installed c u k.0 k.1, subst (λ t. IsTrue (T.installed t)) k.0.holds.0 (h.linked c k.0.life k.0.alive).installed)
 
   -- the same is reached under the types of the lives
   pub reached_now : (c u : ℕ) → Reach there (length state.lives) content c u → Reach T (length state.lives) content c u
   reached_now c u root = root
   reached_now c u (step {b} {t} r lt inst names) =
       let k = reached_has b t r in
-      step (reached_now b t r) lt (subst (λ x. IsTrue (T.installed x)) k.0.ty (h.linked b k.0.life k.0.alive).installed) (names_now t (content b) c u k.1 names)
+      step (reached_now b t r) lt (subst (λ x. IsTrue (T.installed x)) k.0.holds.0 (h.linked b k.0.life k.0.alive).installed) (names_now t (content b) c u k.1 names)
 
   pub now_reached : (c u : ℕ) → Reach T (length state.lives) content c u → Reach there (length state.lives) content c u
   now_reached c u root = root
@@ -223,8 +216,8 @@ module _ (L : Language) (state : StoreState) (h : IsConsistent (types_of L state
   stored_fit : (c u : ℕ) → IsStored state.lives c u → has_type (content 0) u ≡ true → IsTrue (fits there u (content c))
   stored_fit c u k has =
       let s = holds_state c u k in
-      let f = (h.lives_sound.each c s.life s.alive).fit s.state (among_states s.life s.state s.among) in
-      let now : IsTrue (fits T u (content c)) = rw (← s.ty, s.there) f in
+      let f = (h.lives_sound.each c s.life s.alive).fit s.holds.1 (among_states s.life s.holds.1 s.holds.2) in
+      let now : IsTrue (fits T u (content c)) = rw (← s.holds.0, s.holds.3) f in
       fits_same T there u (content c) (owned_same u has) (same_size L (latest state.lives) content u (template_same u has)) now
 
   -- two blocks that name one
@@ -249,9 +242,7 @@ module _ (L : Language) (state : StoreState) (h : IsConsistent (types_of L state
 
   -- a block has one type
   same_type : (b t a u : ℕ) → IsStored state.lives b t → IsStored state.lives a u → b ≡ a → t ≡ u
-  same_type b t a u k m e =
-      let same : k.life ≡ m.life = same_Some k.life m.life (sym k.alive ∙ (ap (life_at state.lives) e ∙ m.alive)) in
-      sym k.ty ∙ (ap (λ (l : Life). l.ty) same ∙ m.ty)
+  same_type b t a u k m e = sym (of_life k m.life (ap (life_at state.lives) e ∙ m.alive)).0 ∙ m.holds.0
 
   only_owner : (b t i c u : ℕ) → Reach there (length state.lives) content b t → Contains (there.owned t (content b)) (c, u) → i < length (there.owned t (content b)) → (get_or (there.owned t (content b)) i (0, 0)).0 ≡ c →
       (a j : ℕ) → Owns there (length state.lives) content a j c → (a ≡ b) × (j ≡ i)
@@ -259,8 +250,7 @@ module _ (L : Language) (state : StoreState) (h : IsConsistent (types_of L state
       let stored = reached_stored b t r in
       let here = (reached_names b t c u r names).1.0 in
       let other = (reached_names a o.ty c (owner_pair a j c o).0 o.reached (owner_pair a j c o).1).1.0 in
-      let life : other.life ≡ here.life = same_Some other.life here.life (sym other.alive ∙ here.alive) in
-      let block : a ≡ b = same_by a b other.life.status other.by (rw (sym life) at here.by) in
+      let block : a ≡ b = same_by a b here.life.status (of_life other here.life here.alive).1 here.holds.1 in
       let types : o.ty ≡ t = same_type a o.ty b t (reached_stored a o.ty o.reached) stored block in
       let lists : there.owned o.ty (content a) ≡ there.owned t (content b) = λ k. there.owned (types k) (content (block k)) in
       let once = (and_parts (named_once there t (content b)) (within_size there t (content b)) (stored_fit b t stored (reached_has b t r).1)).0 in
@@ -291,19 +281,18 @@ module _ (L : Language) (state : StoreState) (h : IsConsistent (types_of L state
   never_root b t c u r names e =
       let by = (reached_names b t c u r names).1.0 in
       let r0 = h.lives_sound.root in
-      let same : by.life ≡ r0.life = same_Some by.life r0.life (sym by.alive ∙ (ap (life_at state.lives) e ∙ r0.alive)) in
-      subst (λ s. IsBy b s) (ap (λ (l : Life). l.status) same ∙ r0.unowned) by.by
+      subst (λ s. IsBy b s) r0.unowned (of_life by r0.life (ap (life_at state.lives) e ∙ r0.alive)).1
 
   -- so the image is sound
   pub soundness : IsSound there (length state.lives) content
   soundness = record {
     size = h.size;
-    long = let s = root_holds in ap length s.there ∙ root_rule.long s.state (root_state s);
-    head = let s = root_holds in rw s.there (root_rule.mark s.state (root_state s));
+    long = let s = root_holds in ap length s.2 ∙ root_rule.long s.0 root_state;
+    head = let s = root_holds in rw s.2 (root_rule.mark s.0 root_state);
     templates = λ c u names. let x = template_there c u names in
-        (in_range T state h c x.0.life x.0.alive, ap (λ f. f (content c)) (same_templates L (latest state.lives) content) ∙ (ap T.template x.1 ∙ x.0.bytes));
+        (in_range T state h c x.0.life x.0.alive, ap (λ f. f (content c)) (same_templates L (latest state.lives) content) ∙ (ap T.template x.1 ∙ x.0.holds.4));
     fit = λ b t r. let k = reached_has b t r in stored_fit b t k.0 k.1;
     range = λ b t c u r names. let k = (reached_names b t c u r names).0 in (positive c (never_root b t c u r names), in_range T state h c k.life k.alive);
-    types = λ b t c u r names. let k = reached_names b t c u r names in (positive u (λ e. never_root b t c u r names ((h.linked c k.0.life k.0.alive).root_alone (k.0.ty ∙ e))), installed c u k.0 k.1.1);
+    types = λ b t c u r names. let k = reached_names b t c u r names in (positive u (λ e. never_root b t c u r names ((h.linked c k.0.life k.0.alive).root_alone (k.0.holds.0 ∙ e))), installed c u k.0 k.1.1);
     owner = one_owner;
   }

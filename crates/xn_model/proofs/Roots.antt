@@ -11,6 +11,7 @@ use Rattle.xn_model.specs.Results.{RootTaken, NotFresh, TooManyPending, Exhauste
 use Rattle.xn_model.specs.Calls.{drop_root_of, make_root_of, root_now, slot_now, root_state, life_bytes, life_pending, make_root_at, accepts, too_many, exhausted, is_empty}
 use Rattle.xn_model.specs.Rules.{Keeps, IsInFileSystem, IsOwnedBy, IsLinkedLife, IsConsistent, NamedIn, IsFreshBlock}
 use Rattle.xn_model.proofs.Lists.{Contains-none, Contains-head, Contains-cons, last_of, blocks_of_at}
+use Rattle.xn_model.proofs.Lives.{of_life}
 use Rattle.xn_model.proofs.Tests.{unless_ok, own_then, same_ok, fresh_from}
 use Rattle.xn_model.proofs.Reached.{in_range}
 use Rattle.xn_model.proofs.Catalogue.{has_keeps}
@@ -54,7 +55,7 @@ module _ (T : Types) (state : StoreState) (h : IsConsistent T state) where
 
   -- block 0 has no owner
   pub root_fresh : IsFreshBlock state.lives 0
-  root_fresh = record { life = h.lives_sound.root.life; alive = h.lives_sound.root.alive; status = h.lives_sound.root.unowned }
+  root_fresh = record { life = h.lives_sound.root.life; alive = h.lives_sound.root.alive; holds = h.lives_sound.root.unowned }
 
   -- what the newest state names, its bytes name
   pub root_lists : (c u : ℕ) → NamedIn T h.lives_sound.root.life.ty (newest h.lives_sound.root.life) (c, u) → Contains (owned_by_root (root_now state)) (c, u)
@@ -65,9 +66,7 @@ module _ (T : Types) (state : StoreState) (h : IsConsistent T state) where
 
   pub never_zero : (c u : ℕ) → Contains (owned_by_root (root_now state)) (c, u) → c ≡ 0 → ⊥
   never_zero c u n z =
-      let o = root_owns c u n in
-      let same : h.lives_sound.root.life ≡ o.life = same_Some h.lives_sound.root.life o.life (sym h.lives_sound.root.alive ∙ (ap (life_at state.lives) (sym z) ∙ o.alive)) in
-      let clash : Fresh ≡ Owned 0 = sym h.lives_sound.root.unowned ∙ (ap (λ (x : Life). x.status) same ∙ o.status) in
+      let clash : Fresh ≡ Owned 0 = sym h.lives_sound.root.unowned ∙ of_life (root_owns c u n) h.lives_sound.root.life (ap (life_at state.lives) z ∙ h.lives_sound.root.alive) in
       absurd cc
 
   -- a block and its type fit a root slot
@@ -133,7 +132,7 @@ module _ (T : Types) (state : StoreState) (h : IsConsistent T state) where
         record {
           systems = λ c u ne' i. absurd (ne' refl);
           adds = λ c u i. elim (Contains-cons (b, l.ty) [] (c, u) i) [
-            | inl e ↦ subst (λ (p : ℕ × ℕ). IsAddable state.lives p.0 p.1) e (record { life = l; alive = alive; ty = refl; fresh = fresh; not_root = ne })
+            | inl e ↦ subst (λ (p : ℕ × ℕ). IsAddable state.lives p.0 p.1) e (record { life = l; alive = alive; holds = (refl, fresh, ne) })
             | inr none ↦ absurd (Contains-none (c, u) none)
           ];
           drops = λ c i. absurd (Contains-none c i);
@@ -158,9 +157,7 @@ module _ (T : Types) (state : StoreState) (h : IsConsistent T state) where
           fit = subst (λ t. IsTrue (fits T t (with_slot (root_now state) fs (b, l.ty)))) (sym h.lives_sound.root.ty)
               (slot_fits (root_now state) fs (b, l.ty) long few small small' T h.built_ins fit (λ z i.
               let u = blocks_of_at (owned_by_root (root_now state)) b i in
-              let o = root_owns b u.0 u.1 in
-              let same : l ≡ o.life = same_Some l o.life (sym alive ∙ o.alive) in
-              let clash : Fresh ≡ Owned 0 = sym fresh ∙ (ap (λ (x : Life). x.status) same ∙ o.status) in
+              let clash : Fresh ≡ Owned 0 = sym fresh ∙ of_life (root_owns b u.0 u.1) l alive in
               absurd cc));
         }
 
@@ -178,7 +175,7 @@ module _ (T : Types) (state : StoreState) (h : IsConsistent T state) where
         subst (λ (x : ℕ × StoreState). Keeps T state x.1) (same_ok (accepts state 0 next) (entry, new) u.1)
         (accepts_keeps T state h 0 h.lives_sound.root.life next h.lives_sound.root.alive
         (make_may (eqb-true (slot_now state fs).0 0 (not-false ((slot_now state fs).0 == 0) u.0.0)) b l own.1.alive (fresh_from l.status (not-false (is_fresh l.status) u.0.1.0)) (not_root T state h fs b l own.1.alive own.1.mine)) refl
-        (λ e. may_be_root (b, l.ty) ((b, l.ty) ∷ []) [] (small_life b l own.1.alive).0 (small_life b l own.1.alive).1 (λ ne. record { life = l; alive = own.1.alive; same = own.1.mine }) (λ ne. (h.linked b l own.1.alive).installed)) (λ e. same_pointers (b, l.ty)))
+        (λ e. may_be_root (b, l.ty) ((b, l.ty) ∷ []) [] (small_life b l own.1.alive).0 (small_life b l own.1.alive).1 (λ ne. record { life = l; alive = own.1.alive; holds = own.1.mine }) (λ ne. (h.linked b l own.1.alive).installed)) (λ e. same_pointers (b, l.ty)))
 
     owned_slot : (slot_now state fs).0 ≢ 0 → Contains (owned_by_root (root_now state)) ((slot_now state fs).0, (slot_now state fs).1)
     unfolding owned_by_root

@@ -9,17 +9,13 @@ use Rattle.xn_model.specs.Lists.{has_number, blocks_of}
 use Rattle.xn_model.specs.Types.{Types, fits}
 use Rattle.xn_model.specs.Root.{has_type, KeepsPointers, marked, slot, templates_of, owned_by_root}
 use Rattle.xn_model.specs.Lives.{BlockState, Status, Fresh, Owned, Dropped, Life, Lives, life_at, newest, first_states, is_dropped, chain_end}
-use Rattle.xn_model.specs.Rules.{IsTemplate, IsInFileSystem, IsRootLife, NamedIn, StartsPlain, Grows, StaysDropped, NoneNames, NoneDrops, IsCount, Rises, IsOwnedBy}
+use Rattle.xn_model.specs.Rules.{At, IsTemplate, IsInFileSystem, IsRootLife, NamedIn, StartsPlain, Grows, StaysDropped, NoneNames, NoneDrops, IsCount, Rises, IsOwnedBy}
 use Rattle.xn_model.proofs.Changes.{accepted, status_after}
 use Rattle.xn_model.proofs.Lists.{Contains-none, Contains-head, Contains-tail, has_number_at, has_number_from}
 use Rattle.xn_model.proofs.Carry.{settled_gone}
 
-pub record IsAddable (lives : Lives) (c u : ℕ) : Type 0 where
-  pub life : Life
-  pub alive : life_at lives c ≡ Some life
-  pub ty : life.ty ≡ u
-  pub fresh : life.status ≡ Fresh
-  pub not_root : c ≢ 0
+abbrev pub IsAddable : (lives : Lives) (c u : ℕ) → Type 0
+IsAddable lives c u = At lives c (λ life. (life.ty ≡ u) × (life.status ≡ Fresh) × (c ≢ 0))
 
 -- A state that block 0 may accept
 pub record MayBeRoot (T : Types) (lives : Lives) (r : IsRootLife T lives) (s : BlockState) : Type 0 where

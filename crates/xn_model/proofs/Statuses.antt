@@ -8,7 +8,7 @@ use Rattle.xn_model.specs.Calls.{owns_nothing}
 use Rattle.xn_model.specs.Rules.{NamedIn, HasExactStatuses}
 use Rattle.xn_model.proofs.Changes.{each, free, with_begun, settled}
 use Rattle.xn_model.proofs.Lists.{Contains-none}
-use Rattle.xn_model.proofs.Lives.{each_forth, each_back, free_forth, free_back}
+use Rattle.xn_model.proofs.Lives.{each_back, at_each, at_free, free_back}
 use Rattle.xn_model.proofs.Carry.{settled_if, settled_last}
 
 -- a life with the same newest state
@@ -28,11 +28,7 @@ exact_each T lives g same x = record {
       let o = x.owned b r.0 a r.1 (sym k.status ∙ (ap (λ (y : Life). y.status) (sym r.2) ∙ s)) in
       let m = same a o.life in
       let ty : r.0.ty ≡ l.ty = sym k.ty ∙ ap (λ (y : Life). y.ty) (sym r.2) in
-      record {
-        life = g a o.life;
-        alive = each_forth g lives a o.life o.alive;
-        names = named_same T o.life (g a o.life) (b, l.ty) m.ty m.newest (subst (λ t. NamedIn T o.life.ty (newest o.life) (b, t)) ty o.names);
-      };
+      at_each g o (named_same T o.life (g a o.life) (b, l.ty) m.ty m.newest (subst (λ t. NamedIn T o.life.ty (newest o.life) (b, t)) ty o.holds));
   emptied = λ b l a p e s n.
       let r = each_back g lives b l e in
       let k = same b r.0 in
@@ -53,13 +49,12 @@ settled_newest b k c l = settled_same_if (eqb c b) k l
 -- blocks that own nothing end
 pub exact_free : (T : Types) (lives : Lives) (blocks : List ℕ) → ((a : ℕ) (m : Life) (p : ℕ × ℕ) → Contains blocks a → life_at lives a ≡ Some m → NamedIn T m.ty (newest m) p → ⊥) → HasExactStatuses T lives → HasExactStatuses T (free blocks lives)
 exact_free T lives blocks empty x = record {
-  owned = λ b l a e s. let o = x.owned b l a (free_back blocks lives b l e).1 s in
-      record { life = o.life; alive = free_forth blocks lives a o.life (λ i. empty a o.life (b, l.ty) i o.alive o.names) o.alive; names = o.names };
+  owned = λ b l a e s. let o = x.owned b l a (free_back blocks lives b l e).1 s in at_free blocks (λ i. empty a o.life (b, l.ty) i o.alive o.holds) o;
   emptied = λ b l a p e s n. x.emptied b l a p (free_back blocks lives b l e).1 s n;
 }
 
 -- a life that owns nothing names nothing
-owns_none : (T : Types) (t : ℕ) (m : List ℕ) → owns_nothing T t m ≡ true → T.owned t m ≡ []
+pub owns_none : (T : Types) (t : ℕ) (m : List ℕ) → owns_nothing T t m ≡ true → T.owned t m ≡ []
 owns_none T t m e = go (T.owned t m) e
   where
     go : (ps : List (ℕ × ℕ)) → elim ps [ [] ↦ true | p ∷ qs ↦ false ] ≡ true → ps ≡ []

@@ -46,13 +46,12 @@ fs_from fs (Some x) e = ap Some (eqb-true x fs e)
 pub kept_from : (lives : Lives) (c : ℕ) → has_durable lives c ≡ true → IsOnDisk lives c
 kept_from lives c e =
     let r = alive_from (λ l. is_some l.durable) (life_at lives c) e in
-    let d = some_from r.0.durable r.2 in
-    record { life = r.0; alive = r.1; state = d.0; durable = d.1 }
+    record { life = r.0; alive = r.1; holds = some_from r.0.durable r.2 }
 
 pub settled_from : (lives : Lives) (c : ℕ) → is_all_durable lives c ≡ true → IsAtRest lives c
 settled_from lives c e =
     let r = alive_from (λ l. is_some l.durable && no_states l.pending) (life_at lives c) e in
-    record { life = r.0; alive = r.1; nothing = no_states_from r.0.pending (and_parts (is_some r.0.durable) (no_states r.0.pending) r.2).1 }
+    record { life = r.0; alive = r.1; holds = no_states_from r.0.pending (and_parts (is_some r.0.durable) (no_states r.0.pending) r.2).1 }
 
 -- the three tests of a pending state
 abbrev adds_met : Lives → ℕ → List BlockState → BlockState → Bool

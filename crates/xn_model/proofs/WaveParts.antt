@@ -11,11 +11,11 @@ use Rattle.xn_model.specs.Calls.{first_pending, is_durable}
 use Rattle.xn_model.specs.Worlds.{World, Event, Reply, replies, world_after, IsEvent}
 use Rattle.xn_model.specs.Waves.{can_begin, wave_bytes, durable_then, drops_with, Outcome, Done, EndsAnyway, WriteFails, SyncFails, write_event, sync_event, is_written, is_done, done, all_drops, life_then, newest_then, settled_then, given_then}
 use Rattle.xn_model.specs.Rules.{Holds, IsAtRest}
+use Rattle.xn_model.proofs.Lives.{of_life}
 use Rattle.xn_model.proofs.Lists.{Contains-none, Contains-head, Contains-tail, has_number_at}
 use Rattle.xn_model.proofs.Tests.{prefix_safe, safe_drops, safe_count_within}
 use Rattle.xn_model.proofs.Ends.{drops_at}
 use Rattle.std.proofs.lemmas.List.Elements.{Contains-append_cases}
-use Rattle.std.proofs.lemmas.Option.{same_Some}
 use Rattle.std.proofs.lemmas.Slice.Eq.{bytes_eq-Decides}
 use Rattle.xn_model.proofs.Drains.{ready_life}
 use Rattle.xn_model.proofs.Runs.{run_keeps}
@@ -187,8 +187,7 @@ ready_stays w outcome bs c ready = false_from_ne_true (has_number (all_drops w o
     let lives = w.state.lives in
     let rest = dropped_rests w outcome bs c (has_number_at (all_drops w outcome bs) c t) in
     let l = ready_life lives (life_at lives c) ready in
-    let same : rest.life ≡ l.0 = same_Some rest.life l.0 (sym rest.alive ∙ l.1) in
-    let none : length l.0.pending ≡ 0 = ap length (ap (λ (x : Life). x.pending) (sym same) ∙ rest.nothing) in
+    let none : length l.0.pending ≡ 0 = ap length (of_life rest l.0 l.1) in
     let some : 1 ≤ safe_count lives l.0.ty [] l.0.pending = l.3 in
     let few = safe_count_within lives l.0.ty [] l.0.pending in
     absurd (omega arith))

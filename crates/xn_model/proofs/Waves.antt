@@ -1,5 +1,5 @@
 -- A whole wave: what its events answer, and the world that it leaves.
-use Rattle.std.proofs.Common.{◌≡◌, ℕ, ◌<◌, ◌≤◌, Bool, true, false, cond, List, ◌++◌, map, length, Option, Some, None, refl, sym, ◌∙◌, ap, inl, inr, arith, subst}
+use Rattle.std.proofs.Common.{◌≡◌, ℕ, ◌<◌, Bool, true, false, cond, List, ◌++◌, map, length, Option, Some, None, refl, sym, ◌∙◌, ap, inl, inr, subst}
 use Rattle.std.specs.Prelude.{Contains, flat_map, option_map, bytes_eq, Result, Ok, Err, if◌then◌else◌}
 use Rattle.std.specs.List.{AllByRecursion}
 use Rattle.std.proofs.lemmas.Bool.{cond-true, cond-false, true≢false, false≢true}
@@ -11,14 +11,14 @@ use Rattle.xn_model.specs.Calls.{bytes_at, first_pending, is_durable, settled_pl
 use Rattle.xn_model.specs.Worlds.{World, types_now, Event, Begin, Finish, Reply, Finished, begun_count, begun_bytes, given_at, world_after, IsEvent, Run}
 use Rattle.xn_model.specs.Waves.{IsWave, wave_bytes, begun_reply, made_durable, drops_with, finished_with, Outcome, Done, EndsAnyway, WriteFails, SyncFails, write_event, sync_event, is_written, is_done, written_blocks, done, wave_with, write_reply, sync_reply, replies_with, all_drops, life_then, newest_then, settled_then, given_then, IsAfterWave}
 use Rattle.xn_model.specs.Flights.{flight_of}
-use Rattle.xn_model.specs.Rules.{Holds, IsCount}
+use Rattle.xn_model.specs.Rules.{Holds}
 use Rattle.xn_model.proofs.Lists.{has_number_at, has_number_from, filter_at}
 use Rattle.std.proofs.lemmas.Option.{none-some}
 use Rattle.xn_model.proofs.Lives.{place_from}
 use Rattle.xn_model.proofs.Lands.{left_placed}
 use Rattle.std.proofs.lemmas.Slice.Eq.{bytes_eq-Decides}
 use Rattle.std.specs.List.{last_or}
-use Rattle.xn_model.proofs.Reached.{in_range}
+use Rattle.xn_model.proofs.Reached.{idle_at_rest, in_range}
 use Rattle.xn_model.proofs.Drains.{ready_life}
 use Rattle.xn_model.proofs.Acts.{acts_run}
 use Rattle.xn_model.proofs.WaveSteps.{Does, does_append, with_lives}
@@ -235,13 +235,9 @@ module _ (w : World) (h : Holds w) (up : w.down ≡ false) (outcome : ℕ → Ou
       ∙ cond-false (has_number bs c) (option_map (life_then (outcome c) (count c) (made c)) (life_at lives c)) (cond (has_number (all_drops w outcome bs) c) None (life_at lives c)) out)
       ∙ go (has_number (all_drops w outcome bs) c) refl
     where
-      rests : (o : Option ℕ) (n : ℕ) → n ≡ 0 → IsCount o n → o ≡ None
-      rests None n e k = refl
-      rests (Some j) n e k = let lo : 1 ≤ j = k.0 in let hi : j ≤ n = k.1 in absurd (omega arith)
-
       go : (d : Bool) → has_number (all_drops w outcome bs) c ≡ d → flight_of (cond d None (life_at lives c)) ≡ flight_of (life_at lives c)
       go false e = refl
       go true e =
           let rest = dropped_rests w outcome bs c (has_number_at (all_drops w outcome bs) c e) in
-          let idle = rests rest.life.begun (length rest.life.pending) (ap length rest.nothing) (h.state.linked c rest.life rest.alive).flight in
+          let idle = idle_at_rest rest.life.begun (length rest.life.pending) (ap length rest.holds) (h.state.linked c rest.life rest.alive).flight in
           sym (ap flight_of rest.alive ∙ ap (option_map (λ k. (k, bytes_at k rest.life))) idle)

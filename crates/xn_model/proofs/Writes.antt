@@ -14,7 +14,7 @@ use Rattle.xn_model.specs.Rules.{ArePlaced, IsRootLife, IsSoundLife, IsLinkedLif
 use Rattle.xn_model.proofs.Changes.{each, settled}
 use Rattle.xn_model.proofs.Lists.{Contains-none, Contains-cons, Contains-drop, last_of}
 use Rattle.xn_model.proofs.Lives.{each_forth, each_back}
-use Rattle.xn_model.proofs.Carry.{Carries, held_still, kept_still, root_still, carries_settled, owned_settled, settled_other, settled_same, settled_if, settled_fewer, settled_rises, settled_start, settled_grows, settled_stays, settled_last, root_pointers}
+use Rattle.xn_model.proofs.Carry.{still_some, some_state, Carries, held_still, kept_still, root_still, carries_settled, owned_settled, settled_other, settled_same, settled_if, settled_fewer, settled_rises, settled_start, settled_grows, settled_stays, settled_last, root_pointers}
 use Rattle.xn_model.proofs.Statuses.{exact_each, settled_newest}
 use Rattle.xn_model.proofs.Chains.{chains_each}
 use Rattle.xn_model.proofs.Orders.{ordered_settle}
@@ -25,11 +25,7 @@ use Rattle.xn_model.proofs.Reached.{carried_pending}
 
 last_some : (xs : List BlockState) → 1 ≤ length xs → (t : BlockState) × (last_or None xs ≡ Some t)
 last_some [] e = absurd (omega arith)
-last_some (x ∷ xs) e = go x xs
-  where
-    go : (x : BlockState) (xs : List BlockState) → (t : BlockState) × (last_or (Some x) xs ≡ Some t)
-    go x [] = (x, refl)
-    go x (y ∷ xs) = go y xs
+last_some (x ∷ xs) e = still_some (Some x) x xs refl
 
 pub begun_last : (l : Life) (k : ℕ) → IsCount l.begun (length l.pending) → l.begun ≡ Some k → (t : BlockState) × (last_or None (carried l) ≡ Some t)
 begun_last l k count e =
@@ -78,15 +74,6 @@ pub states_fewer : (t : Bool) (k : ℕ) (l : Life) (s : BlockState) → Contains
 states_fewer true k l s m = settled_fewer l.durable k l.pending s m
 states_fewer false k l s m = m
 
--- the state at which a durable life is durable after the write
-settled_durable : (t : Bool) (k : ℕ) (l : Life) (s : BlockState) → l.durable ≡ Some s → (r : BlockState) × ((settled_if t k l).durable ≡ Some r)
-settled_durable true k l s e = go l.durable s (take k l.pending) e
-  where
-    go : (o : Option BlockState) (s : BlockState) (xs : List BlockState) → o ≡ Some s → (r : BlockState) × (last_or o xs ≡ Some r)
-    go o s [] e = (s, e)
-    go o s (x ∷ xs) e = go (Some x) x xs refl
-settled_durable false k l s e = (s, e)
-
 module _ (T : Types) (state : StoreState) (h : IsConsistent T state) (b : ℕ) (l : Life) (alive : life_at state.lives b ≡ Some l) (k : ℕ) (begun : l.begun ≡ Some k) where
   now : Lives
   now = each (settled b k) state.lives
@@ -99,7 +86,7 @@ module _ (T : Types) (state : StoreState) (h : IsConsistent T state) (b : ℕ) (
   unfolding now
   root_settled =
       let r = h.lives_sound.root in
-      let d = settled_durable (eqb 0 b) k r.life r.state r.durable in
+      let d = some_state (eqb 0 b) k r.life r.state r.durable in
       root_still T state.lives now carries r (settled b k 0 r.life) d.0 (each_forth (settled b k) state.lives 0 r.life r.alive) r.ty r.nobody r.unowned d.1 (λ t m. states_fewer (eqb 0 b) k r.life t m)
       (root_pointers (eqb 0 b) k r.life r.pointers) (settled_newest b k 0 r.life).newest
 
@@ -111,14 +98,14 @@ module _ (T : Types) (state : StoreState) (h : IsConsistent T state) (b : ℕ) (
   held_at c m e = elim (cases_eq c b) [
     | inl same ↦ subst (IsSoundLife T now c) (sym (settled_same b k c m same))
         (held_settled T state.lives now c k m carries (ap (λ (x : Life). x.begun) (sym (same_life c m e same)) ∙ begun) (h.lives_sound.each c m e))
-    | inr other ↦ subst (IsSoundLife T now c) (sym (settled_other b k c m other)) (held_still T state.lives now c m carries (h.lives_sound.each c m e))
+    | inr other ↦ subst (IsSoundLife T now c) (sym (settled_other b k c m other)) (held_still T state.lives now c m m.status carries (h.lives_sound.each c m e))
   ]
 
   kept_at : (c : ℕ) (m : Life) → life_at state.lives c ≡ Some m → IsLinkedLife T now c (settled b k c m)
   unfolding now
   kept_at c m e = elim (cases_eq c b) [
     | inl same ↦ subst (IsLinkedLife T now c) (sym (settled_same b k c m same)) (kept_settled T state.lives now c k m carries (owned_settled b k state.lives c) (h.linked c m e))
-    | inr other ↦ subst (IsLinkedLife T now c) (sym (settled_other b k c m other)) (kept_still T state.lives now c m carries (owned_settled b k state.lives c) (carried_pending m) (h.linked c m e))
+    | inr other ↦ subst (IsLinkedLife T now c) (sym (settled_other b k c m other)) (kept_still T state.lives now c m m.status carries (owned_settled b k state.lives c) (carried_pending m) (h.linked c m e))
   ]
 
   -- the bytes on the disk are those of the state that settled

@@ -17,17 +17,16 @@ use Rattle.xn_model.specs.Worlds.{World, MayLeave, given_at, types_now}
 
 -- The image against the lives
 
--- Block c is alive with type u, and these contents hold one of its states.
-pub record HoldsState (content : ℕ → List ℕ) (lives : Lives) (c u : ℕ) : Type 0 where
-  -- its life, which has that type
+-- Block c is alive, with a life of which P holds.
+pub record At (lives : Lives) (c : ℕ) (P : Life → Type 0) : Type 0 where
   pub life : Life
   pub alive : life_at lives c ≡ Some life
-  pub ty : life.ty ≡ u
-  -- the state, which is the durable one or a pending one that the begun write carries
-  pub state : BlockState
-  pub among : Contains (option_to_list life.durable ++ carried life) state
-  -- the block's bytes are that state's
-  pub there : content c ≡ state.bytes
+  pub holds : P life
+
+-- Block c is alive with type u, and these contents hold one of its states: the durable one, or a pending one that the begun write carries.
+abbrev pub HoldsState : (content : ℕ → List ℕ) (lives : Lives) (c u : ℕ) → Type 0
+HoldsState content lives c u =
+    At lives c (λ life. (life.ty ≡ u) × (s : BlockState) × Contains (option_to_list life.durable ++ carried life) s × (content c ≡ s.bytes))
 
 -- Contents agree with lives.
 pub record Agrees (T : Types) (count : ℕ) (content : ℕ → List ℕ) (lives : Lives) : Type 0 where
@@ -45,73 +44,46 @@ IsBy b (Owned a) = a ≡ b
 IsBy b (Dropped a) = a ≡ b
 
 -- Block c is alive with type u, and block b owns it or has dropped it.
-pub record BelongsTo (lives : Lives) (b c u : ℕ) : Type 0 where
-  pub life : Life
-  pub alive : life_at lives c ≡ Some life
-  pub ty : life.ty ≡ u
-  pub by : IsBy b life.status
+abbrev pub BelongsTo : (lives : Lives) (b c u : ℕ) → Type 0
+BelongsTo lives b c u = At lives c (λ life. (life.ty ≡ u) × IsBy b life.status)
 
 -- Block c is alive and has a state on the disk.
-pub record IsOnDisk (lives : Lives) (c : ℕ) : Type 0 where
-  pub life : Life
-  pub alive : life_at lives c ≡ Some life
-  pub state : BlockState
-  pub durable : life.durable ≡ Some state
+abbrev pub IsOnDisk : (lives : Lives) (c : ℕ) → Type 0
+IsOnDisk lives c = At lives c (λ life. (s : BlockState) × (life.durable ≡ Some s))
 
 -- Block c is alive, and of this file system or, with None, of none.
-pub record IsInFileSystem (lives : Lives) (fs : Option ℕ) (c : ℕ) : Type 0 where
-  pub life : Life
-  pub alive : life_at lives c ≡ Some life
-  pub same : life.fs ≡ fs
+abbrev pub IsInFileSystem : (lives : Lives) (fs : Option ℕ) (c : ℕ) → Type 0
+IsInFileSystem lives fs c = At lives c (λ life. life.fs ≡ fs)
 
--- Block c is a template: of no file system, of type 1, with one state.
-pub record IsTemplate (T : Types) (lives : Lives) (c : ℕ) : Type 0 where
-  pub life : Life
-  pub alive : life_at lives c ≡ Some life
-  pub nobody : life.fs ≡ None
-  pub ty : life.ty ≡ 1
-  -- its one state, on the disk or pending
-  pub state : BlockState
-  pub only : states life ≡ state ∷ []
-  -- the bytes are a template's
-  pub bytes : IsTrue (T.template state.bytes)
+-- Block c is a template: of no file system, of type 1, with one state, on the disk or pending, whose bytes are a template's.
+abbrev pub IsTemplate : (T : Types) (lives : Lives) (c : ℕ) → Type 0
+IsTemplate T lives c = At lives c (λ life. (life.fs ≡ None) × (life.ty ≡ 1) × (s : BlockState) × (states life ≡ s ∷ []) × IsTrue (T.template s.bytes))
 
 -- Block b has dropped block c, and that is not on the disk yet.
-pub record IsDroppedBy (lives : Lives) (b c : ℕ) : Type 0 where
-  pub life : Life
-  pub alive : life_at lives c ≡ Some life
-  pub status : life.status ≡ Dropped b
+abbrev pub IsDroppedBy : (lives : Lives) (b c : ℕ) → Type 0
+IsDroppedBy lives b c = At lives c (λ life. life.status ≡ Dropped b)
 
 -- Block b owns block c.
-pub record IsOwnedBy (lives : Lives) (b c : ℕ) : Type 0 where
-  pub life : Life
-  pub alive : life_at lives c ≡ Some life
-  pub status : life.status ≡ Owned b
+abbrev pub IsOwnedBy : (lives : Lives) (b c : ℕ) → Type 0
+IsOwnedBy lives b c = At lives c (λ life. life.status ≡ Owned b)
 
 -- Block c is alive, and never had an owner.
-pub record IsFreshBlock (lives : Lives) (c : ℕ) : Type 0 where
-  pub life : Life
-  pub alive : life_at lives c ≡ Some life
-  pub status : life.status ≡ Fresh
+abbrev pub IsFreshBlock : (lives : Lives) (c : ℕ) → Type 0
+IsFreshBlock lives c = At lives c (λ life. life.status ≡ Fresh)
 
 -- Block c is alive with nothing pending.
-pub record IsAtRest (lives : Lives) (c : ℕ) : Type 0 where
-  pub life : Life
-  pub alive : life_at lives c ≡ Some life
-  pub nothing : life.pending ≡ []
+abbrev pub IsAtRest : (lives : Lives) (c : ℕ) → Type 0
+IsAtRest lives c = At lives c (λ life. life.pending ≡ [])
 
 -- Block c is alive with a state on the disk, or with a pending one whose number is below n.
-pub record IsOlder (lives : Lives) (c n : ℕ) : Type 0 where
-  pub life : Life
-  pub alive : life_at lives c ≡ Some life
-  pub older : ((s : BlockState) × (life.durable ≡ Some s)) ⊎ ((t : BlockState) × Contains life.pending t × (t.entry < n))
+abbrev pub IsOlder : (lives : Lives) (c n : ℕ) → Type 0
+IsOlder lives c n = At lives c (λ life. ((s : BlockState) × (life.durable ≡ Some s)) ⊎ ((t : BlockState) × Contains life.pending t × (t.entry < n)))
 
 -- Block 0 has type u on the disk, or in a pending state whose number is below n.
-pub record IsOlderType (lives : Lives) (u n : ℕ) : Type 0 where
-  pub life : Life
-  pub alive : life_at lives 0 ≡ Some life
-  pub older : ((s : BlockState) × (life.durable ≡ Some s) × IsTrue (has_type s.bytes u)) ⊎
-      ((t : BlockState) × Contains life.pending t × (t.entry < n) × IsTrue (has_type t.bytes u))
+abbrev pub IsOlderType : (lives : Lives) (u n : ℕ) → Type 0
+IsOlderType lives u n =
+    At lives 0 (λ life. ((s : BlockState) × (life.durable ≡ Some s) × IsTrue (has_type s.bytes u)) ⊎
+    ((t : BlockState) × Contains life.pending t × (t.entry < n) × IsTrue (has_type t.bytes u)))
 
 -- What the states of a life name
 
@@ -273,10 +245,8 @@ pub record AreOrdered (lives : Lives) : Type 0 where
 -- What a status says
 
 -- Block a is alive, and its newest state names block c with type u.
-pub record IsNamer (T : Types) (lives : Lives) (a c u : ℕ) : Type 0 where
-  pub life : Life
-  pub alive : life_at lives a ≡ Some life
-  pub names : NamedIn T life.ty (newest life) (c, u)
+abbrev pub IsNamer : (T : Types) (lives : Lives) (a c u : ℕ) → Type 0
+IsNamer T lives a c u = At lives a (λ life. NamedIn T life.ty (newest life) (c, u))
 
 -- The statuses agree with the newest states.
 pub record HasExactStatuses (T : Types) (lives : Lives) : Type 0 where

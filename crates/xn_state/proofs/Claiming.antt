@@ -66,7 +66,7 @@ slot_owned T state fs h few some =
     let two : Contains (T.owned root.life.ty (root_now state)) p = subst (λ t. Contains (T.owned t (root_now state)) p) (sym root.ty) one in
     let three : Contains (T.owned root.life.ty (current root.life)) p = subst (λ m. Contains (T.owned root.life.ty m) p) (ap life_bytes root.alive) two in
     let owned = pair_owned T state 0 root.life h root.alive p.0 p.1 three in
-    ap (alive_and (λ l. is_owned_by 0 l.status)) owned.alive ∙ ap (is_owned_by 0) owned.status
+    ap (alive_and (λ l. is_owned_by 0 l.status)) owned.alive ∙ ap (is_owned_by 0) owned.holds.1
 
 pub drop_claims : (T : Types) (state : StoreState) (fs : ℕ) (plan : List ℕ × ℕ) → IsConsistent T state → fs < 32 → drop_root_plan T state fs ≡ Ok plan → MayClaim state.lives 0 [] (plan.1 ∷ [])
 drop_claims T state fs plan h few made =

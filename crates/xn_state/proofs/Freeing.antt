@@ -29,15 +29,15 @@ may_free T state b k bytes h e =
             apart = λ i.
                 let d = drops_at (take k s.life.pending) b i in
                 let dropped = (h.linked b s.life s.alive).dropped d.0 b (Contains-take k s.life.pending d.0 d.1) d.2 in
-                h.waits.apart b dropped.life dropped.alive (subst (IsBy b) (sym dropped.status) refl);
+                h.waits.apart b dropped.life dropped.alive (subst (IsBy b) (sym dropped.holds) refl);
             at_rest = λ c i.
                 let d = among c i in
                 let rest = (h.linked b s.life s.alive).resting d.0 c d.1 d.2 in
-                ap life_pending rest.alive ∙ ap length rest.nothing;
+                ap life_pending rest.alive ∙ ap length rest.holds;
             unowned = λ c i.
                 let d = drops_at (take k s.life.pending) c i in
                 let dropped = (h.linked b s.life s.alive).dropped d.0 c (Contains-take k s.life.pending d.0 d.1) d.2 in
-                λ a. ap (alive_and (λ l. is_owned_by a l.status)) dropped.alive ∙ ap (is_owned_by a) dropped.status;
+                λ a. ap (alive_and (λ l. is_owned_by a l.status)) dropped.alive ∙ ap (is_owned_by a) dropped.holds;
           }
       | inr none ↦
           let nothing : (c : ℕ) → Contains (drops_of (take k s.life.pending)) c → ⊥ = λ c i. Contains-none c (subst (λ n. Contains (drops_of (take n s.life.pending)) c) none.0 i) in

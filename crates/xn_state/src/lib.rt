@@ -1,4 +1,5 @@
-// The state of a store without its disk: what each block has been since it was last free.
+// The state of a store without its disk: what each block has been since it was last free, and the types; the calls that change it, with their answers, and
+// the trait `Store`.
 // May touch: memory.
 #![tactic(auto)]
 

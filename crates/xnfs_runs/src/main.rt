@@ -1,6 +1,7 @@
-// Plays the transcripts of `xnfs` that its arguments name, and makes, leaves and opens a store on a disk in a file. Then it plays pseudo-random
-// lines of the shell, and compares each answer with that of a plain tree of files and folders. Most of them go to a disk in memory, which is
-// mounted anew again and again; then all that stands on it is compared, and so it is before. The last ones go to a disk in a file, as one shell.
+// Plays transcripts of `xnfs`, makes, leaves and opens a store on a disk in a file, and plays pseudo-random lines of the shell beside a plain tree of
+// files and folders. The transcripts are those that its arguments name. Each answer to a line is compared with that of the tree. Most lines go to a disk
+// in memory, which is mounted anew again and again; then all that stands on it is compared, and so it is before. The last ones go to a disk in a file,
+// as shells.
 // Prints how many lines of each kind were played, how many of them were done, and how many answers were others than the tree's. The same lines
 // are played in each run. An argument that is a number says how many.
 // May touch: memory, threads, files, streams.

@@ -1,32 +1,18 @@
--- The rules of volumes hold on over the waves of a flush.
-use Rattle.std.proofs.Common.{◌∙◌, ◌≡◌, ap, arith, ℕ, zero, suc, List, true, false, Bool, Some, Result, Ok, Err, sym, inl, inr, subst, [], ◌∷◌, IfOk, IfErr, MatchResult, OnOk}
+-- What a store tells of a flush, and that the rules of volumes hold on over it.
+use Rattle.std.proofs.Common.{◌≡◌, ℕ, zero, suc, List, true, false, Bool, Result, Ok, Err, sym, inl, inr, subst, IfOk, IfErr, MatchResult, OnOk}
 use Rattle.xn_model.specs.declared.refusal.Refusal.{Refusal}
-use Rattle.std.proofs.lemmas.List.{nil_from_length}
-use Rattle.std.proofs.lemmas.Option.{none-some}
-use Rattle.xn_model.specs.Lives.{Lives, StoreState}
-use Rattle.xn_model.specs.Worlds.{all_pending}
-use Rattle.ffs_lib.specs.Volumes.{NothingPending}
-use Rattle.xn_model.specs.Calls.{begun_of, life_pending, settled_of}
+use Rattle.xn_model.specs.declared.refusal.Refusal.TheVariants.{InFlight, NoMemory, Device}
+use Rattle.xn_model.specs.Lives.{StoreState}
+use Rattle.xn_model.specs.Calls.{begun_of, settled_of}
 use Rattle.xn_model.proofs.ForCallers.{begun_keeps, settled_keeps}
 use Rattle.xn_state.specs.States.{own_types}
-use Rattle.xn_kernel.specs.Kernels.{KernelValue, TicketValue}
-use Rattle.xn_kernel.specs.Drains.{Reads, WriteRelation}
-use Rattle.xn_kernel.specs.Flushes.{WriteEnds, FlushRefuses, Wave, Waves, wave_room, kernel_with_begun}
-use Rattle.disk.specs.declared.lane.DeviceFault.{DeviceFault}
+use Rattle.xn_kernel.specs.Flushes.{wave_room}
+use Rattle.xn_kernel.specs.FlushedStates.{EndsWrite, StateRefuses, StateWave, StateWaves}
 use Rattle.ffs_model.specs.Library.{library_layout, IsLibrary}
 use Rattle.ffs_model.specs.Volumes.{VolumeKeeps}
 use Rattle.ffs_model.proofs.ForCallers.{begin_cuts, begin_next, library_reads, none_later, settle_cuts, settle_next, volume_from}
 use Rattle.templates.specs.Language.{language}
 use Rattle.xnfs_session.specs.Kept.{KeepsVolumes}
-
--- where as much as nothing is pending of all blocks together, nothing is of each
-
-pub nothing_left : (lives : Lives) → all_pending lives ≡ 0 → NothingPending lives
-nothing_left [] e b l at = absurd (none-some l at)
-nothing_left (o ∷ os) e zero l at =
-    let here : life_pending (Some l) ≡ 0 = ap life_pending (sym at) ∙ (omega arith) in
-    nil_from_length l.pending here
-nothing_left (o ∷ os) e (suc b) l at = nothing_left os (omega arith) b l at
 
 -- what is told of a flush: its waves or its refusal
 
@@ -38,9 +24,20 @@ module _ {S : Type 0} (refusal : S → Refusal) where
   if_ok told (Ok n) P Q e p f = subst (λ r. IfOk r Q) (sym e) (f n p)
   if_ok told (Err stop) P Q e p f = subst (λ r. IfOk r Q) (sym e) tt
 
+  pub if_err : (told : Result ℕ Refusal) (flushed : Result ℕ S) (P : S → Type 0) (Q : Refusal → Type 0) → Tells told flushed → IfErr flushed P →
+      ((stop : S) → P stop → Q (refusal stop)) → IfErr told Q
+  if_err told (Ok n) P Q e p f = subst (λ r. IfErr r Q) (sym e) tt
+  if_err told (Err stop) P Q e p f = subst (λ r. IfErr r Q) (sym e) (f stop p)
+
   pub on_ok : (told : Result ℕ Refusal) (flushed : Result ℕ S) (P Q : Type 0) → Tells told flushed → OnOk flushed P → (P → Q) → OnOk told Q
   on_ok told (Ok n) P Q e p f = subst (λ r. OnOk r Q) (sym e) (f p)
   on_ok told (Err stop) P Q e p f = subst (λ r. OnOk r Q) (sym e) tt
+
+-- what holds where it ends and where it is refused or stops
+pub always : (told : Result ℕ Refusal) (old new : StoreState) (P : Type 0) → IfOk told (λ n. StateWaves n old new) → IfErr told (λ r. StateRefuses old r new) →
+    ((n : ℕ) → StateWaves n old new → P) → ((r : Refusal) → StateRefuses old r new → P) → P
+always (Ok n) old new P ok err f g = f n ok
+always (Err r) old new P ok err f g = g r err
 
 -- over one state to another, under the types of each
 abbrev pub Follows : StoreState → StoreState → Type 0
@@ -72,46 +69,26 @@ follows_itself state fs array few is v = (is, v)
 follows_then : (a b c : StoreState) → Follows a b → Follows b c → Follows a c
 follows_then a b c f g fs array few is v = let one = f fs array few is v in g fs array few one.0 one.1
 
--- so does a kernel another one
-abbrev pub After : {L : Type 0} → KernelValue L → KernelValue L → Type 0
-After old new = Follows old.state new.state
+ends_follow : (old new : StoreState) (b : ℕ) (given : List ℕ × ℕ) (is_durable : Bool) → EndsWrite b given is_durable old new → Follows old new
+ends_follow old new b given true e = settled_follows old new b given.0 (given.1, e.0) e.1
+ends_follow old new b given false e = elim e [
+  | inl p ↦ settled_follows old new b p.0 (0, 0) p.1
+  | inr same ↦ subst (Follows old) (sym same) (follows_itself old)
+]
 
-module _ {L : Type 0} (bytes : L → List ℕ) (faults : L → ℕ) (writes : WriteRelation L) (syncs reads : Reads L) where
-  ends_after : (answer : Result (Unit {0}) DeviceFault) (home : L) (ticket : TicketValue L) (old : KernelValue L) (before : List (TicketValue L)) (is_durable : Bool)
-      (new : KernelValue L) (after : List (TicketValue L)) → WriteEnds bytes faults syncs reads answer home ticket old before is_durable new after → After old new
-  ends_after answer home ticket old before true new after e = let u = e.0 in
-      subst (After old) (sym u.next) (settled_follows old.state u.store ticket.block ticket.bytes (ticket.count, u.freed) u.settles)
-  ends_after answer home ticket old before false new after e = elim e [
-    | inl p ↦ let u = p.0 in subst (After old) (sym u.next) (settled_follows old.state u.store ticket.block (bytes u.settled) (0, 0) u.settles)
-    | inr p ↦ subst (After old) (sym p.2) (follows_itself old.state)
-  ]
+wave_follows : (n room durable : ℕ) (old new : StoreState) → StateWave n room durable old new → Follows old new
+wave_follows zero room durable old new w = subst (Follows old) (sym w.1) (follows_itself old)
+wave_follows (suc n) room durable old new w =
+    follows_then old w.begun new (begun_follows old w.begun w.block w.given w.begins)
+    (follows_then w.begun w.mid new (wave_follows n w.left w.others w.begun w.mid w.rest) (ends_follow w.mid new w.block w.given w.is_durable w.ends))
 
-  wave_after : (n room durable : ℕ) (old : KernelValue L) (before : List (TicketValue L)) (new : KernelValue L) (after : List (TicketValue L)) →
-      Wave bytes faults writes syncs reads n room durable old before new after → After old new
-  wave_after zero room durable old before new after w = subst (After old) (sym w.1) (follows_itself old.state)
-  wave_after (suc n) room durable old before new after w =
-      follows_then old.state w.begun new.state (begun_follows old.state w.begun w.ticket.block (w.ticket.bytes, w.ticket.count) w.written.begins)
-      (follows_then w.begun w.mid.state new.state (wave_after n w.left w.others (kernel_with_begun old w.ticket.block w.begun) before w.mid w.between w.rest)
-      (ends_after w.answer w.written.home w.ticket w.mid w.between w.is_durable new after w.ends))
+pub waves_follow : (n : ℕ) (old new : StoreState) → StateWaves n old new → Follows old new
+waves_follow zero old new e = subst (Follows old) (sym e) (follows_itself old)
+waves_follow (suc n) old new w = follows_then old w.0 new (wave_follows w.1.0 wave_room w.1.0 old w.0 w.1.2) (waves_follow n w.0 new w.2)
 
-  waves_after : (n : ℕ) (old new : KernelValue L) → Waves bytes faults writes syncs reads n old new → After old new
-  waves_after zero old new e = subst (After old) (sym e) (follows_itself old.state)
-  waves_after (suc n) old new w =
-      follows_then old.state w.0.state new.state (wave_after w.1.blocks wave_room w.1.blocks old [] w.0 [] w.1.wave) (waves_after n w.0 new w.2)
-
-  refuses_after : (old new : KernelValue L) (n : ℕ) (tickets : List (TicketValue L)) (refusal : Refusal) →
-      FlushRefuses bytes faults writes syncs reads old n tickets refusal new → After old new
-  refuses_after old new n tickets refusal s = elim s [
-    | inl busy ↦ subst (After old) (sym busy.4) (follows_itself old.state)
-    | inr idle ↦ elim idle.1 [
-      | inl want ↦ subst (After old) (sym want.3) (follows_itself old.state)
-      | inr r ↦ follows_then old.state r.0.state new.state (waves_after n old r.0 r.1)
-          (wave_after r.2.blocks wave_room r.2.durable r.0 [] new tickets r.2.wave)
-    ]
-  ]
-
-  pub flush_after : {S : Type 0} (old new : KernelValue L) (result : Result ℕ S) (count : S → ℕ) (tickets : S → List (TicketValue L)) (refusal : S → Refusal) →
-      IfOk result (λ n. Waves bytes faults writes syncs reads n old new) →
-      IfErr result (λ stop. FlushRefuses bytes faults writes syncs reads old (count stop) (tickets stop) (refusal stop) new) → After old new
-  flush_after old new (Ok n) count tickets refusal ok err = waves_after n old new ok
-  flush_after old new (Err stop) count tickets refusal ok err = refuses_after old new (count stop) (tickets stop) (refusal stop) err
+pub refused_follows : (old new : StoreState) (refusal : Refusal) → StateRefuses old refusal new → Follows old new
+refused_follows old new InFlight r = subst (Follows old) (sym r.1) (follows_itself old)
+refused_follows old new NoMemory r = subst (Follows old) (sym r.1) (follows_itself old)
+refused_follows old new Device r =
+    follows_then old r.1.1 new (waves_follow r.1.0 old r.1.1 r.1.2) (wave_follows r.1.3.0 wave_room r.1.3.1 r.1.1 new r.1.3.3)
+refused_follows old new _ r = absurd r

@@ -1,2 +1,4 @@
 pub mod Flushed
+pub mod Opening
+pub mod Looks
 mod Taken

@@ -1,3 +1,4 @@
 pub mod Kept
 pub mod Sessions
+pub mod Opening
 pub mod Stopping

@@ -1,8 +1,10 @@
 // Stores whose pending entries are written in waves.
 
-ghost use Rattle.std.specs.Prelude.{◌≡◌, ◌<◌, IfOk, MatchResult, OnOk, Ok, Err, is_some};
+ghost use Rattle.std.specs.Prelude.{◌≡◌, ◌<◌, ◌≤◌, IfErr, IfOk, MatchResult, OnOk, Ok, Err, is_some};
 ghost use Rattle.xn_model.specs.Calls.{free_of, tainted_of};
+ghost use Rattle.xn_model.specs.Rules.{IsIdle};
 ghost use Rattle.xn_state.specs.Awaits.{awaited_of};
+ghost use Rattle.xn_kernel.specs.FlushedStates.{KeepsNewest, StateRefuses, StateWaves};
 ghost use Rattle.ffs_lib.specs.Volumes.{NothingPending};
 ghost use Rattle.xnfs_session.specs.Kept.{KeepsVolumes};
 
@@ -12,17 +14,29 @@ use xn_kernel::{FlushStop, Kernel, Refusal, Store};
 
 /// A store on a disk that can be flushed.
 pub trait FlushStore: Store {
-    /// Writes all that is pending, and answers how many waves that took. Where it is refused the store may have blocks in flight that
-    /// nothing finishes any more.
+    /// Writes all that is pending in waves of up to 256 blocks, and answers how many that took; each block keeps its newest bytes. It is refused
+    /// where a write is under way (`InFlight`) and for want of memory (`NoMemory`), which both do nothing, and stops with the wave in
+    /// which a read, a write or a sync failed (`Device`): then the store may have blocks in flight that nothing finishes any more.
     fn flush(&mut self, alloc: Global) -> Result<u32, Refusal>
-        ensures keeps { KeepsVolumes (Self.types_of self.old) (Self.state_of self.old) (Self.types_of self.new) (Self.state_of self.new) }
-        ensures done { OnOk result (NothingPending (Self.state_of self.new).lives) };
+        ensures types { Self.types_of self.new ≡ Self.types_of self.old }
+        ensures waves { IfOk result (λ waves. StateWaves waves (Self.state_of self.old) (Self.state_of self.new)) }
+        ensures idle { OnOk result (IsIdle (Self.state_of self.old).lives × IsIdle (Self.state_of self.new).lives) }
+        ensures done { OnOk result (NothingPending (Self.state_of self.new).lives) }
+        ensures err { IfErr result (λ refusal. StateRefuses (Self.state_of self.old) refusal (Self.state_of self.new)) }
+        ensures newest { KeepsNewest (Self.state_of self.old).lives (Self.state_of self.new).lives }
+        ensures keeps { KeepsVolumes (Self.types_of self.old) (Self.state_of self.old) (Self.types_of self.new) (Self.state_of self.new) };
 
-    /// Writes what is pending in so many waves at most, and answers how many that took, fewer only where nothing is pending any more. Where it is
-    /// refused the store is left as by `flush`.
+    /// Writes what is pending in so many waves at most, as `flush` does, and answers how many that took, fewer only where nothing is pending any
+    /// more. It is refused, and stops, as `flush` is.
     fn flush_waves(&mut self, alloc: Global, most: u32) -> Result<u32, Refusal>
-        ensures keeps { KeepsVolumes (Self.types_of self.old) (Self.state_of self.old) (Self.types_of self.new) (Self.state_of self.new) }
-        ensures done { IfOk result (λ waves. waves < most → NothingPending (Self.state_of self.new).lives) };
+        ensures types { Self.types_of self.new ≡ Self.types_of self.old }
+        ensures waves { IfOk result (λ waves. StateWaves waves (Self.state_of self.old) (Self.state_of self.new)) }
+        ensures idle { OnOk result (IsIdle (Self.state_of self.old).lives × IsIdle (Self.state_of self.new).lives) }
+        ensures few { IfOk result (λ waves. waves ≤ most) }
+        ensures done { IfOk result (λ waves. waves < most → NothingPending (Self.state_of self.new).lives) }
+        ensures err { IfErr result (λ refusal. StateRefuses (Self.state_of self.old) refusal (Self.state_of self.new)) }
+        ensures newest { KeepsNewest (Self.state_of self.old).lives (Self.state_of self.new).lives }
+        ensures keeps { KeepsVolumes (Self.types_of self.old) (Self.state_of self.old) (Self.types_of self.new) (Self.state_of self.new) };
 
     /// How many blocks are free.
     fn free(&self) -> u32
@@ -57,11 +71,13 @@ fn waves_of<L: Lane + Drop>(flushed: Result<u32, FlushStop<L>>) -> Result<u32, R
 
 impl<L: Lane + Drop> FlushStore for Kernel<L> {
     fn flush(&mut self, alloc: Global) -> Result<u32, Refusal> {
+        self.keeps_rules();
         let flushed = Kernel::flush(self, alloc);
         waves_of(flushed)
     }
 
     fn flush_waves(&mut self, alloc: Global, most: u32) -> Result<u32, Refusal> {
+        self.keeps_rules();
         let flushed = Kernel::flush_waves(self, alloc, most);
         waves_of(flushed)
     }

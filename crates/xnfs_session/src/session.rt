@@ -1,6 +1,6 @@
 // A store with its open volume.
 
-ghost use Rattle.std.specs.Prelude.{◌≡◌, ◌≢◌, ◌<◌, ◌≤◌, ◌+◌, ◌⊎◌, ℕ, List, [], is_some, length, map, IfOk, IsOk, MatchResult, None, OnErr, OnOk, Ok, Err};
+ghost use Rattle.std.specs.Prelude.{◌≡◌, ◌≢◌, ◌<◌, ◌≤◌, ◌+◌, ◌⊎◌, ℕ, List, [], is_some, length, map, IfErr, IfOk, IsOk, IsTrue, MatchResult, None, Some, OnErr, OnOk, Ok, Err};
 ghost use Rattle.ffs_model.specs.Cuts.{latest};
 ghost use Rattle.ffs_model.specs.Library.{IsLibrary};
 ghost use Rattle.ffs_model.specs.Volumes.{no_edits};
@@ -24,10 +24,15 @@ ghost use Rattle.ffs_lib.specs.Written.{DoesSome, Overwrites, WritesSomeTo, some
 ghost use Rattle.ffs_lib.specs.WriteOrder.{ShowsWhole, WritesSomeInOrder, after_in, first_past, reached};
 ghost use Rattle.ffs_lib.specs.declared.data.Last.{Last};
 ghost use Rattle.xn_model.specs.Lives.{StoreState};
-ghost use Rattle.xn_model.specs.Calls.{free_of, pending_of, tainted_of};
+ghost use Rattle.xn_model.specs.Calls.{free_of, pending_of, root_of, tainted_of};
 ghost use Rattle.xn_model.specs.declared.refusal.Refusal.{Refusal};
+ghost use Rattle.xn_model.specs.Rules.{IsIdle};
 ghost use Rattle.xn_state.specs.Awaits.{awaited_of};
+ghost use Rattle.xn_kernel.specs.FlushedStates.{KeepsNewest, StateRefuses, StateWaves};
 ghost use Rattle.xnfs_session.specs.Kept.{KeepsVolumes};
+ghost use Rattle.xnfs_session.specs.Opening.{MakesBy, OpensBy};
+ghost use Rattle.templates.specs.Meaning.{numbers_of_pair};
+ghost use Rattle.xnfs_session.specs.Sessions.{entry_blocks, inode_blocks, name_blocks, owner_of, used_in};
 
 mod raw;
 
@@ -37,7 +42,7 @@ use ffs_format::is_name;
 use ffs_lib::{FfsFault, Fs, Repairs, Volume};
 use ffs_lookup::{
     DIRECTORY, Found, Room, Slot, find_directory, find_entry, find_free, find_inode, find_room,
-    is_library, read_block,
+    is_library, root_block,
 };
 pub use raw::{Entry, Facts, has_volume};
 use std::alloc::{AllocError, Global};
@@ -132,17 +137,60 @@ fn named<S: Store>(store: &S, fs: Fs, directory: u16, name: &[u8]) -> Result<Slo
 }
 
 /// The blocks of some pairs.
-fn blocks_of(alloc: Global, pairs: &[Pair]) -> Result<Vec<u32>, AllocError> {
+fn blocks_of(alloc: Global, pairs: &[Pair]) -> Result<Vec<u32>, AllocError>
+    ensures { IfOk result (λ blocks. blocks.items ≡ map (λ pair. pair.block) pairs.now) }
+{
     pairs.iter().map(|pair| pair.block).collect(alloc)
 }
 
+/// What a block of an installed type points to, each block with its type.
+fn pairs_of<S: Store>(store: &S, ty: u32, bytes: &[u8; 512]) -> ArrayVec<Pair, 128>
+    requires { IsTrue ((S.types_of store.now).installed ty) }
+    ensures { map numbers_of_pair result.items ≡ (S.types_of store.now).owned ty bytes.now }
+{
+    let mut pairs = ArrayVec::new();
+    let Some(template) = store.template(ty) else {
+        unreachable!()
+    };
+    owns(template.owns(), bytes, &mut pairs);
+    pairs
+}
+
+/// How many blocks an entry takes at the room that a directory has for it.
+fn entry_blocks(room: &Room) -> u32
+    ensures is { result ≡ entry_blocks (Some room.now) }
+    ensures few { result ≤ 1 }
+{
+    match room {
+        Room::Entry { .. } => 0,
+        Room::Pointer(_) => 1,
+    }
+}
+
+/// How many blocks the inode of a name takes, none where it is there.
+fn inode_blocks<S: Store>(store: &S, fs: Fs, is_new: bool) -> Result<u32, FfsFault>
+    ensures is { IsLibrary (S.types_of store.now) → result ≡ inode_blocks (latest (S.state_of store.now).lives) fs.number is_new }
+    ensures few { IfOk result (λ blocks. blocks ≤ 1) }
+{
+    if is_new {
+        let _root = root_block(store, fs)?;
+        return match find_free(store, fs)? {
+            Some(_) => Ok(0),
+            None => Ok(1),
+        };
+    }
+    Ok(0)
+}
+
 impl<S: FlushStore + Drop> Session<S> {
-    /// Opens the volume of a file system of a store on which nothing is under way. What is pending is written first. `NoEntry` where there
-    /// is no volume, also where the store lacks the library's types; `Unsound` where an inode has more names than links; `Kernel` where
-    /// the store could not be flushed.
+    /// Opens the volume of a file system of a store on which nothing is under way. What is pending is written first. `Kernel` where the store
+    /// could not be flushed; `NoEntry` where there is no volume, also where the store lacks the library's types; `Unsound` of the least
+    /// inode that more entries name than it has links. The bytes of the store's blocks stay as they are.
     pub fn open(alloc: Global, store: S, fs: Fs) -> Result<Session<S>, FfsFault>
         ensures fs { IfOk result (λ session. session.fs ≡ fs.number) }
         ensures numbers { IfOk result (λ session. edits_of session.numbers ≡ no_edits) }
+        ensures types { IfOk result (λ session. S.types_of session.store ≡ S.types_of store) }
+        ensures opens { OpensBy (S.types_of store) fs.number (S.state_of store) (mapped (λ session. S.state_of session.store) result) }
         ensures clean { IfOk result (λ session. NothingPending (S.state_of session.store).lives) }
     {
         let mut store = store;
@@ -154,10 +202,13 @@ impl<S: FlushStore + Drop> Session<S> {
         Ok(Session { store, fs, volume })
     }
 
-    /// Makes the volume of a file system that has none, with what `open` asks of the store; `Exists` where there is one.
+    /// Makes the volume of a file system that has none, with what `open` asks of the store; then the faults are those of `make` of a volume,
+    /// `Exists` where there is one.
     pub fn make(alloc: Global, store: S, fs: Fs) -> Result<Session<S>, FfsFault>
         ensures fs { IfOk result (λ session. session.fs ≡ fs.number) }
         ensures numbers { IfOk result (λ session. edits_of session.numbers ≡ no_edits) }
+        ensures types { IfOk result (λ session. S.types_of session.store ≡ S.types_of store) }
+        ensures makes { MakesBy (S.types_of store) fs.number (S.state_of store) (mapped (λ session. S.state_of session.store) result) }
     {
         let mut store = store;
         let _waves = store.flush(alloc)?;
@@ -180,24 +231,35 @@ impl<S: FlushStore + Drop> Session<S> {
         store
     }
 
-    /// Writes all that is pending, and answers how many waves that took. After a refusal the session is of no more use.
+    /// Writes all that is pending, and answers how many waves that took, as a flush of its store does; after one that stopped (`Device`) the
+    /// session is of no more use.
     pub fn flush(&mut self, alloc: Global) -> Result<u32, Refusal>
+        ensures types { S.types_of self.new.store ≡ S.types_of self.old.store }
         ensures fs { self.new.fs ≡ self.old.fs }
         ensures numbers { self.new.numbers ≡ self.old.numbers }
-        ensures keeps { KeepsVolumes (S.types_of self.old.store) (S.state_of self.old.store) (S.types_of self.new.store) (S.state_of self.new.store) }
+        ensures waves { IfOk result (λ waves. StateWaves waves (S.state_of self.old.store) (S.state_of self.new.store)) }
+        ensures idle { OnOk result (IsIdle (S.state_of self.old.store).lives × IsIdle (S.state_of self.new.store).lives) }
         ensures done { OnOk result (NothingPending (S.state_of self.new.store).lives) }
+        ensures err { IfErr result (λ refusal. StateRefuses (S.state_of self.old.store) refusal (S.state_of self.new.store)) }
+        ensures newest { KeepsNewest (S.state_of self.old.store).lives (S.state_of self.new.store).lives }
+        ensures keeps { KeepsVolumes (S.types_of self.old.store) (S.state_of self.old.store) (S.types_of self.new.store) (S.state_of self.new.store) }
     {
         let _few = self.fs.index();
         self.store.flush(alloc)
     }
 
-    /// Writes what is pending in so many waves at most, and answers how many that took, fewer only where nothing is pending any more. After a
-    /// refusal the session is of no more use.
+    /// Writes what is pending in so many waves at most, and answers how many that took, fewer only where nothing is pending any more.
     pub fn flush_waves(&mut self, alloc: Global, most: u32) -> Result<u32, Refusal>
+        ensures types { S.types_of self.new.store ≡ S.types_of self.old.store }
         ensures fs { self.new.fs ≡ self.old.fs }
         ensures numbers { self.new.numbers ≡ self.old.numbers }
-        ensures keeps { KeepsVolumes (S.types_of self.old.store) (S.state_of self.old.store) (S.types_of self.new.store) (S.state_of self.new.store) }
+        ensures waves { IfOk result (λ waves. StateWaves waves (S.state_of self.old.store) (S.state_of self.new.store)) }
+        ensures idle { OnOk result (IsIdle (S.state_of self.old.store).lives × IsIdle (S.state_of self.new.store).lives) }
+        ensures few { IfOk result (λ waves. waves ≤ most) }
         ensures done { IfOk result (λ waves. waves < most → NothingPending (S.state_of self.new.store).lives) }
+        ensures err { IfErr result (λ refusal. StateRefuses (S.state_of self.old.store) refusal (S.state_of self.new.store)) }
+        ensures newest { KeepsNewest (S.state_of self.old.store).lives (S.state_of self.new.store).lives }
+        ensures keeps { KeepsVolumes (S.types_of self.old.store) (S.state_of self.old.store) (S.types_of self.new.store) (S.state_of self.new.store) }
     {
         let _few = self.fs.index();
         self.store.flush_waves(alloc, most)
@@ -474,33 +536,34 @@ impl<S: FlushStore + Drop> Session<S> {
     /// How many blocks a new name in a directory takes, with `is_new` also the inode that it names: one where the directory's blocks have no
     /// place left, and one where those of the inodes have none. Faults are `NoEntry` and `NotDir` of the directory, and those by which no
     /// name can be made.
-    pub fn blocks_for_name(&self, directory: u16, is_new: bool) -> Result<u32, FfsFault> {
+    pub fn blocks_for_name(&self, directory: u16, is_new: bool) -> Result<u32, FfsFault>
+        ensures { result ≡ name_blocks (latest (S.state_of self.now.store).lives) self.now.fs directory is_new }
+    {
         let found = find_directory(&self.store, self.fs, directory)?;
-        let entry = match find_room(&self.store, self.fs, &found, directory)? {
-            Room::Entry { .. } => 0,
-            Room::Pointer(_) => 1,
-        };
-        let inode = if is_new && find_free(&self.store, self.fs)?.is_none() {
-            1
-        } else {
-            0
-        };
-        Ok(entry + inode)
+        let room = find_room(&self.store, self.fs, &found, directory)?;
+        let inode = inode_blocks(&self.store, self.fs, is_new)?;
+        Ok(entry_blocks(&room) + inode)
     }
 
     /// The block in the root slot of its file system.
-    pub fn root(&self) -> Option<u32> {
+    pub fn root(&self) -> Option<u32>
+        ensures { result ≡ root_of (S.state_of self.now.store) self.now.fs }
+    {
         self.store.root(self.fs)
     }
 
-    /// A block of its file system: its type, and the blocks that its newest bytes point to.
-    pub fn owner(&self, alloc: Global, block: u32) -> Result<Owner, FfsFault> {
+    /// A block of its file system: its type, and the blocks that its newest bytes point to. Faults are those by which the store refuses to read it,
+    /// and `NoMemory`.
+    pub fn owner(&self, alloc: Global, block: u32) -> Result<Owner, FfsFault>
+        ensures { MatchResult result
+            (λ owner. (owner.block ≡ block) × (Ok (owner.ty, owner.owned.items) ≡ owner_of (S.types_of self.now.store) (S.state_of self.now.store) self.now.fs block))
+            (λ fault. ((fault ≡ FfsFault.Kernel Refusal.NoMemory) × IsOk (owner_of (S.types_of self.now.store) (S.state_of self.now.store) self.now.fs block))
+            ⊎ ((refusal : Refusal) × (fault ≡ FfsFault.Kernel refusal)
+            × (Err refusal ≡ owner_of (S.types_of self.now.store) (S.state_of self.now.store) self.now.fs block))) }
+    {
         let ty = self.store.kind(self.fs, block)?;
-        let bytes = read_block(&self.store, self.fs, block)?;
-        let mut pairs = ArrayVec::new();
-        if let Some(template) = self.store.template(ty) {
-            owns(template.owns(), bytes, &mut pairs);
-        }
+        let bytes = self.store.read(self.fs, block)?;
+        let pairs = pairs_of(&self.store, ty, bytes);
         let owned = blocks_of(alloc, pairs.as_slice())?;
         Ok(Owner { block, ty, owned })
     }
@@ -514,11 +577,16 @@ impl<S: FlushStore + Drop> Session<S> {
     }
 
     /// What is taken and what is left.
-    pub fn usage(&self) -> Usage {
+    pub fn usage(&self) -> Usage
+        ensures { result ≡ record {
+          free_blocks = free_of (S.state_of self.now.store);
+          used_inodes = used_in (latest (S.state_of self.now.store).lives) self.now.fs;
+        } }
+    {
         let mut used_inodes = 0u16;
-        for number in 1..=MOST_INODES {
-            if find_inode(&self.store, self.fs, number).is_ok() {
-                used_inodes = used_inodes.saturating_add(1);
+        for index in 0..MOST_INODES {
+            if find_inode(&self.store, self.fs, index + 1).is_ok() {
+                used_inodes += 1;
             }
         }
         Usage {

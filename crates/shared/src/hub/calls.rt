@@ -1,6 +1,6 @@
 // The calls of a kernel, through a hub.
 
-ghost use Rattle.std.specs.Prelude.{◌≡◌, ◌≢◌, Option, Some, None, Result, IfOk, OnOk, OnErr, slice_get, slice_set, unwrap_or, option_copied};
+ghost use Rattle.std.specs.Prelude.{◌≡◌, ◌≢◌, Option, Some, None, Result, false, IfOk, OnOk, OnErr, slice_get, slice_set, unwrap_or, option_copied};
 ghost use Rattle.xn_model.specs.Results.{Gives, GivesExactly, Lends, result_map};
 ghost use Rattle.xn_model.specs.Calls.{init_of, make_root_of, drop_root_of, propose_of, forget_of, begun_of, read_of, kind_of, root_of, tainted_of, pending_of};
 ghost use Rattle.xn_model.specs.Calls.{floor_of, free_of, pick_of};
@@ -77,7 +77,7 @@ impl<L: Lane, K: Naming> Hub<L, K> {
         ensures state { GivesExactly (begun_of self.old.kernel.state block) self.old.kernel.state self.new.kernel.state
             (result_map (λ ticket. (ticket.bytes, ticket.count)) result) }
         ensures ticket { IfOk result (λ ticket. (ticket.kernel ≡ self.old.kernel.id) × (ticket.block ≡ block)
-            × (slice_get self.old.kernel.lanes block ≡ Some (Some ticket.lane))) }
+            × (slice_get self.old.kernel.lanes block ≡ Some (Some ticket.lane)) × (ticket.unsynced ≡ false)) }
         ensures lanes { OnOk result (self.new ≡ record self.old {
           kernel = record self.old.kernel {
             lanes = slice_set self.old.kernel.lanes block None;

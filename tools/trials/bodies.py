@@ -1,0 +1,319 @@
+"""Wrong bodies of `xnfs` and `xnsim`, and the scenes that each of them makes fail."""
+
+import os
+import subprocess
+import sys
+import tempfile
+from concurrent.futures import ThreadPoolExecutor
+from dataclasses import dataclass
+
+import code_alone
+from made_from import TOP, NotMade, kit_of
+from trials.programs import give_up
+from trials.tally import Tally
+
+PROGRAMS = ("xnfs", "xnsim")
+# So many are built side by side, each of which takes up to 2 GB.
+JOBS = 2
+
+
+@dataclass
+class Body:
+    """A wrong body: its file, the programs in which it counts, a text of the file, what stands there in its place, and the scenes that fail."""
+
+    path: str
+    programs: list
+    old: str
+    new: str
+    scenes: list
+
+
+LOCKING, REAL, TAKING, REPLACING = (f"crates/system_files/src/{it}.rt" for it in ("locking", "real", "taking", "replacing"))
+LINES, MAIN = "crates/xnsim/src/files.rt", "crates/xnsim/src/main.rt"
+XNFS_LINE = "crates/xnfs_line/src/"
+BODIES = {
+    "no_create_new": Body(
+        REAL, ["xnsim"],
+        "File::create_new(self.rt, name)",
+        "File::create(self.rt, name)",
+        ["files_left_behind_stop_no_later_run"],
+    ),
+    "refused_link_followed": Body(
+        TAKING, ["xnfs"],
+        "(Found::Link, Links::Refused) => Err(WriteFault::Link)",
+        "(Found::Link, Links::Refused) => follow(system, name)",
+        ["get_of_a_folder_replaces_no_file_that_a_link_leads_to"],
+    ),
+    "link_replaced": Body(
+        TAKING, ["xnsim"],
+        "(Found::Link, Links::Followed) => follow(system, name),",
+        "(Found::Link, Links::Followed) => lock_at(system, String::from_str(alloc, name)?),",
+        ["a_link_is_followed_and_stays"],
+    ),
+    "written_in_place": Body(
+        TAKING, ["xnsim"],
+        "    Ok(Some(Target::Replaced {\n        path,\n        old: Some(file),\n    }))\n",
+        "    Ok(Some(Target::InPlace(file)))\n",
+        ["another_name_of_a_file_keeps_its_bytes"],
+    ),
+    "target_cut_off": Body(
+        REAL, ["xnsim"],
+        "OpenOptions::new().write(true).open(self.rt, name)",
+        "OpenOptions::new().write(true).truncate(true).open(self.rt, name)",
+        ["a_signal_leaves_the_old_file_or_the_new_one"],
+    ),
+    "sync_after_the_rename": Body(
+        REPLACING, ["xnsim"],
+        "    system.sync(file)?;\n    system.rename(beside, path)\n",
+        "    system.rename(beside, path)?;\n    system.sync(file)\n",
+        ["a_file_is_secret_before_it_has_bytes"],
+    ),
+    "device_replaced": Body(
+        REAL, ["xnsim"],
+        "        Found::Other\n",
+        "        Found::Regular\n",
+        ["a_device_is_written_in_place", "a_pipe_takes_the_bytes"],
+    ),
+    "disk_not_locked": Body(
+        LOCKING, ["xnsim"],
+        "        lock(&file, access)?;\n",
+        "",
+        ["a_run_has_its_image_alone", "a_lock_of_anybody_is_kept"],
+    ),
+    "disk_not_looked_at_again": Body(
+        LOCKING, ["xnfs", "xnsim"],
+        "if is_at(rt, &file, name)? {",
+        "if is_at(rt, &file, name).is_ok() {",
+        ["an_image_that_is_replaced_while_it_is_locked_is_read_anew", "a_disk_that_is_replaced_while_it_is_locked_is_opened_anew"],
+    ),
+    "pipe_opened_as_a_disk": Body(
+        LOCKING, ["xnfs"],
+        "    if !found.is_file() {",
+        "    if found.is_symlink() {",
+        ["a_pipe_is_no_disk_of_xnfs"],
+    ),
+    "target_not_locked": Body(
+        REAL, ["xnsim"],
+        "        match file.try_lock() {\n",
+        "        match file.try_lock_shared() {\n",
+        ["a_lock_of_anybody_is_kept"],
+    ),
+    "target_not_looked_at_again": Body(
+        REAL, ["xnsim"],
+        "Ok(metadata) => Ok(is_same(&metadata, &file.metadata()?)),",
+        "Ok(_) => Ok(file.metadata().is_ok()),",
+        ["an_output_that_is_replaced_while_it_is_locked_is_locked_anew"],
+    ),
+    "mode_not_kept": Body(
+        REAL, ["xnsim"],
+        "        file.set_permissions(metadata.permissions())?;\n",
+        "",
+        ["mode_owner_and_group_are_kept", "the_mask_is_for_new_files_alone"],
+    ),
+    "owner_not_kept": Body(
+        REAL, ["xnsim"],
+        "fchown(file, Some(metadata.uid()), Some(metadata.gid()))",
+        "fchown(file, None, Some(metadata.gid()))",
+        ["xnsim_replaces_files_of_any_name_and_keeps_their_owner", "mode_owner_and_group_are_kept"],
+    ),
+    "owner_has_to_be_kept": Body(
+        REAL, ["xnsim"],
+        "        if fchown(file, Some(metadata.uid()), Some(metadata.gid())).is_err() {\n",
+        "        fchown(file, Some(metadata.uid()), Some(metadata.gid()))?;\n        if metadata.is_dir() {\n",
+        ["a_file_of_others_that_may_be_written_is_replaced"],
+    ),
+    "nothing_removed": Body(
+        REAL, ["xnsim"],
+        "        let _ = fs::remove_file(self.rt, name);\n",
+        "        let _ = fs::exists(self.rt, name);\n",
+        ["a_call_that_fails_leaves_the_old_file", "a_full_disk_leaves_the_old_file"],
+    ),
+    "fault_not_told": Body(
+        LINES, ["xnsim"],
+        "source).is_ok()\n",
+        "source).is_ok() || !name.starts_with('/')\n",
+        ["a_folder_is_no_target", "a_socket_is_no_target", "a_file_that_may_not_be_written_is_not_replaced", "a_folder_that_loses_its_rights_meanwhile"],
+    ),
+    "replaced_image_overwritten": Body(
+        LINES, ["xnsim"],
+        "            && !leads_to(self.rt, name, disk)\n",
+        "            && !leads_to(self.rt, name, disk)\n            && name.is_empty()\n",
+        ["an_image_that_takes_the_place_of_one_that_is_run_is_kept"],
+    ),
+    "pipe_not_read": Body(
+        LINES, ["xnsim"],
+        "Err(OpenFault::NotAFile) => fs::open(rt, name).ok(),",
+        "Err(OpenFault::NotAFile) => None,",
+        ["pipes_and_devices_are_read"],
+    ),
+    "streams_not_held": Body(
+        MAIN, ["xnsim"],
+        "    let Ok(_held) = hold_streams(&rt) else {",
+        "    let Ok(_held) = hold_streams(&rt).map(|_| ()) else {",
+        ["closed_streams_of_xnsim_take_no_file"],
+    ),
+    "stored_name_not_tested": Body(
+        XNFS_LINE + "survey.rt", ["xnfs"],
+        "if *is_too_long || !is_name(name) {",
+        "if *is_too_long {",
+        ["get_stays_within_its_target"],
+    ),
+    "names_shown_raw": Body(
+        XNFS_LINE + "showing.rt", ["xnfs"],
+        "if c.is_control() {",
+        "if c == '\\u{0}' {",
+        ["names_are_printed_without_control_bytes"],
+    ),
+    "sizes_of_nameless_inodes_tested": Body(
+        XNFS_LINE + "survey.rt", ["xnfs"],
+        "(is_named && facts.size > facts.reach)",
+        "((is_named || !is_named) && facts.size > facts.reach)",
+        ["what_a_stop_leaves_is_good"],
+    ),
+    "last_flush_left_out_on_an_early_end": Body(
+        XNFS_LINE + "shell.rt", ["xnfs"],
+        "if !matches!(&ran, Ok((_, false))) {",
+        "if matches!(&ran, Ok((_, true))) {",
+        ["a_lazy_shell_that_ends_early_has_written_its_done_lines"],
+    ),
+    "flush_before_mv_left_out": Body(
+        XNFS_LINE + "carrying.rt", ["xnfs"],
+        "        Word::Remove { .. } => {\n",
+        "        Word::Move { .. } => true,\n        Word::Remove { .. } => {\n",
+        ["a_file_moved_into_a_new_folder_is_not_lost"],
+    ),
+    "rm_goes_with_mv": Body(
+        XNFS_LINE + "carrying.rt", ["xnfs"],
+        "volume.carried.kind == Some(Kind::TakenAway)",
+        "volume.carried.kind.is_some()",
+        ["a_file_that_is_moved_and_removed_is_never_emptied"],
+    ),
+    "all_words_share_a_flush": Body(
+        XNFS_LINE + "carrying.rt", ["xnfs"],
+        "if is_crowded || !may_join(volume, alloc, word, kind) {",
+        "if is_crowded {",
+        ["a_name_stands_once_after_each_stop"],
+    ),
+    "rm_of_one_of_two_names_goes_with_rm": Body(
+        XNFS_LINE + "carrying.rt", ["xnfs"],
+        "if is_crowded || !may_join(volume, alloc, word, kind) {",
+        "if is_crowded || (!matches!(word, Word::Remove { .. }) && !may_join(volume, alloc, word, kind)) {",
+        ["a_file_with_two_names_is_whole_or_gone"],
+    ),
+    "mkdir_in_a_folder_just_made": Body(
+        XNFS_LINE + "carrying.rt", ["xnfs"],
+        " && !self.folders.contains(&folder)",
+        "",
+        ["folders_that_a_lazy_shell_makes_are_never_lost"],
+    ),
+    "flush_between_levels_left_out": Body(
+        XNFS_LINE + "changing.rt", ["xnfs"],
+        "            flush(volume, alloc)?;\n            Ok(made)\n",
+        "            Ok(made)\n",
+        ["folders_made_at_once_leak_nothing"],
+    ),
+    "rmdir_goes_with_rm": Body(
+        XNFS_LINE + "carrying.rt", ["xnfs"],
+        "        Word::Remove { .. } => {\n",
+        "        Word::RemoveFolder { .. } => true,\n        Word::Remove { .. } => {\n",
+        ["a_folder_that_was_emptied_and_removed_leaks_nothing"],
+    ),
+    "two_names_not_looked_at": Body(
+        XNFS_LINE + "changing.rt", ["xnfs"],
+        "        has_one_name(volume, alloc, path.as_bytes(), place.folder, &node)?;\n",
+        "",
+        ["one_of_two_names_of_a_folder_is_taken_alone"],
+    ),
+    "not_good_and_changed": Body(
+        XNFS_LINE + "lines.rt", ["xnfs"],
+        "if !volume.survey.is_good() {",
+        "if volume.survey.faults() > 1_000 {",
+        ["a_volume_that_is_not_good_is_told_and_not_changed"],
+    ),
+    "mv_of_one_file_to_itself_refused": Body(
+        XNFS_LINE + "changing.rt", ["xnfs"],
+        "onto.is_some_and(|node| !node.is_directory)",
+        "onto.is_some_and(|other| !other.is_directory && other.number != node.number)",
+        ["a_stop_of_mv_is_ended_by_mv"],
+    ),
+    "streams_of_xnfs_not_held": Body(
+        "crates/xnfs/src/main.rt", ["xnfs"],
+        "if file.as_raw_fd() >= STREAMS {",
+        "if file.as_raw_fd() >= 0 {",
+        ["a_closed_stream_is_never_the_disk"],
+    ),
+    "links_below_a_source_followed": Body(
+        XNFS_LINE + "sources.rt", ["xnfs"],
+        "match entry.metadata() {",
+        "match fs::metadata(rt, &path) {",
+        ["put_of_a_folder_follows_no_link"],
+    ),
+    "links_below_a_target_followed": Body(
+        XNFS_LINE + "getting.rt", ["xnfs"],
+        "        Kind::Link => Reason::Link,\n",
+        "        Kind::Link => return Ok(true),\n",
+        ["get_of_a_folder_follows_no_link_below_its_target"],
+    ),
+}
+
+
+def build(tree, program, out):
+    """Builds a program of a tree's code alone, in less time than one that is to be fast."""
+    with tempfile.TemporaryDirectory() as room:
+        code_alone.build(kit_of(), tree, program, out, room, code_alone.UNOPTIMIZED)
+
+
+def scene_fails(folder, paths, scene):
+    """Whether a scene fails with these programs, and its line."""
+    named = {program.upper(): path for program, path in paths.items()}
+    words = [sys.executable, os.path.join(TOP, "tools", "outside"), "edges", scene]
+    done = subprocess.run(words, cwd=folder, env={**os.environ, **named}, capture_output=True, text=True, check=False)
+    line = next((line for line in done.stdout.splitlines() if f"{scene}: " in line), done.stderr[-300:])
+    return done.returncode == 1 and line.startswith("wrong: "), line
+
+
+def planted(name, usual):
+    """Plants a wrong body and builds its programs; in the place of another program stands the usual one. Whether each scene fails, and its line."""
+    body = BODIES[name]
+    with tempfile.TemporaryDirectory() as room:
+        tree = code_alone.copy_text(TOP, os.path.join(room, "tree"))
+        path = os.path.join(tree, body.path)
+        with open(path, encoding="utf-8") as file:
+            text = file.read()
+        if text.count(body.old) != 1:
+            return [(False, f"its text stands {text.count(body.old)} times in {body.path}")]
+        with open(path, "w", encoding="utf-8") as file:
+            file.write(text.replace(body.old, body.new))
+        paths = dict(usual)
+        for program in body.programs:
+            paths[program] = os.path.join(room, program)
+            try:
+                build(tree, program, paths[program])
+            except NotMade as error:
+                return [(False, f"no program: {error}")]
+        return [scene_fails(room, paths, scene) for scene in body.scenes]
+
+
+def try_bodies(names):
+    """Has each scene fail with its wrong bodies, and with the right ones not."""
+    tally = Tally("bodies", "scenes")
+    if unknown := set(names) - set(BODIES):
+        give_up(f"there is no body {' '.join(sorted(unknown))}")
+    with tempfile.TemporaryDirectory() as room, ThreadPoolExecutor(JOBS) as pool:
+        tree = code_alone.copy_text(TOP, os.path.join(room, "tree"))
+        usual = {program: os.path.join(room, program) for program in PROGRAMS}
+        print(f"code alone, built of {TOP} with each wrong body", flush=True)
+        list(pool.map(lambda program: build(tree, program, usual[program]), PROGRAMS))
+        for scene in dict.fromkeys(scene for name in names for scene in BODIES[name].scenes):
+            fails, line = scene_fails(room, usual, scene)
+            if fails:
+                tally.fault(f"without a wrong body {line}")
+        for name, seen in zip(names, pool.map(lambda name: planted(name, usual), names)):
+            tally.count("bodies")
+            for fails, line in seen:
+                tally.count("scenes")
+                if fails:
+                    print(f"{name}: seen by {line.removeprefix('wrong: ')}", flush=True)
+                else:
+                    tally.fault(f"{name}: missed by {line}")
+    return tally

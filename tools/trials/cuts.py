@@ -1,0 +1,131 @@
+"""Builds the images that a crash may leave in the middle of runs of `xnfs`, and looks at each.
+
+Each of RUNS runs (20) is a random line or a random shell, also a lazy one, on a disk that the runs before it have filled; `strace` records its
+writes and syncs, and what it prints. At each point of that record images are built with none, all and SUBSETS (30) random subsets of the writes since
+the last good sync kept. Each has to be sound by `xnsim check`, its names good, and each file whole: of the lines that have answered all is there, of a
+lazy shell up to its last `sync` that has; what the next line does may be there or not. After the last point, with status 0, all has to be there.
+One image in ten is repaired, which has to change no name and no file, and to leave no inode in use without a name. A fresh disk is made for every ten
+runs; every second one is crowded: it has three blocks of inodes and two of names in a folder, and most of its runs are lazy shells. A line on standard
+error tells each run.
+"""
+
+import collections
+import os
+import random
+import re
+import subprocess
+import sys
+import tempfile
+
+from trials.disks import XNFS, crowd, found, fresh, is_repaired, is_sound, write_sources
+from trials.lines import answered_by, random_run
+from trials.programs import demand, read, write
+from trials.tally import Tally
+from trials.tree import Tree
+
+BYTES = r'"((?:\\x[0-9a-f]{2})*)"'
+WRITE = re.compile(rf"pwrite64\(\d+(?:<[^>]*>)?, {BYTES}, (\d+), (\d+)\)\s+= (-?\d+)")
+OUT = re.compile(rf"write\(1(?:<[^>]*>)?, {BYTES}, (\d+)\)\s+= (-?\d+)")
+SYNC = re.compile(r"f(?:data)?sync\(.*\)\s+= 0")
+# No write of a run is longer than this.
+LONGEST = 200_000
+
+
+def bytes_of(text, count):
+    return bytes.fromhex(text.replace("\\x", ""))[:count]
+
+
+def recorded(folder, trial):
+    """What a run does, in its order: block writes as pairs of offset and bytes, None for a sync, and what it prints as bytes."""
+    subprocess.run(
+        ["strace", "-f", "-o", "trace", "-e", "trace=pwrite64,write,fsync,fdatasync", "-xx", "-s", str(LONGEST), XNFS, "disk", *trial.words],
+        cwd=folder, input=trial.given, stdout=subprocess.DEVNULL, check=True,
+    )
+    events = []
+    with open(os.path.join(folder, "trace"), encoding="ascii") as lines:
+        for line in lines:
+            if written := WRITE.search(line):
+                events.append((int(written[3]), bytes_of(written[1], int(written[4]))))
+            elif printed := OUT.search(line):
+                events.append(bytes_of(printed[1], int(printed[3])))
+            elif SYNC.search(line):
+                events.append(None)
+    return events
+
+
+def with_writes(image, writes):
+    image = bytearray(image)
+    for offset, data in writes:
+        image[offset : offset + len(data)] = data
+    return bytes(image)
+
+
+def subsets(writes, count, rng):
+    """None of some writes, all of them, and so many random subsets."""
+    yield []
+    if writes:
+        yield writes
+        for _ in range(count if len(writes) > 1 else 0):
+            yield [write for write in writes if rng.random() < 0.5]
+
+
+class Cuts:
+    """A run's images, of which each is looked at once."""
+
+    def __init__(self, folder, trial, tally):
+        self.folder, self.trial, self.tally, self.seen = folder, trial, tally, set()
+
+    def look(self, image, answered, is_after):
+        """Looks at an image after so many lines have answered, or after all is done."""
+        key = (image, answered, is_after)
+        if key in self.seen:
+            return
+        self.seen.add(key)
+        write(self.folder, "cut", image)
+        left = found(self.folder, "cut")
+        self.tally.count("images")
+        if not is_sound(self.folder, "cut") or not (self.trial.leaves(left) if is_after else self.trial.may_leave(left, answered)):
+            self.tally.fault(self.trial.words, self.trial.lines, "answered", answered)
+        elif len(self.seen) % 10 == 0:
+            self.tally.count("repairs")
+            if not is_repaired(self.folder, "cut", left):
+                self.tally.fault("repair:", self.trial.words, self.trial.lines, "answered", answered)
+
+    def take(self, image, events, count, rng):
+        """Looks at all cuts of a record."""
+        open_writes, printed = [], b""
+        for event in [*events, "end"]:
+            if isinstance(event, bytes):
+                printed += event
+                continue
+            for kept in subsets(open_writes, count, rng):
+                self.look(with_writes(image, kept), answered_by(printed) if self.trial.is_shell() else 0, event == "end")
+            if event is None:
+                image, open_writes = with_writes(image, open_writes), []
+            elif event != "end":
+                open_writes.append(event)
+
+
+def play(runs=20, count=30):
+    demand(["strace"])
+    rng, kinds, most, tally = random.Random(2), collections.Counter(), 0, Tally("runs", "shells", "lines", "images", "repairs", "syncs")
+    with tempfile.TemporaryDirectory() as folder:
+        write_sources(folder)
+        for number in range(runs):
+            if number % 10 == 0:
+                fresh(folder, "disk", 640)
+                tree = crowd(folder, "disk", rng) if number % 20 == 0 else Tree()
+            trial = random_run(tree, rng)
+            kinds.update(trial.kinds())
+            image = read(folder, "disk")
+            events = recorded(folder, trial)
+            most = max(most, 0 if trial.is_shell() else events.count(None))
+            for name, counted in {"runs": 1, "shells": trial.is_shell(), "lines": len(trial.lines), "syncs": events.count(None)}.items():
+                tally.count(name, counted)
+            Cuts(folder, trial, tally).take(image, events, count, rng)
+            tree = trial.trees[-1]
+            print(f"{' '.join(trial.words)}: {tally}", file=sys.stderr, flush=True)
+    for kind, number in sorted(kinds.items()):
+        print(f"{kind:<24} {number:>5}")
+    print(f"{most} syncs at most in a line")
+    return tally
