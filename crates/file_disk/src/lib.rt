@@ -18,6 +18,7 @@
 #![tactic(auto)]
 
 mod fault;
+mod kept_block;
 mod lane;
 mod lanes;
 mod open_writes;

@@ -5,12 +5,11 @@ ghost use Rattle.file_disk.specs.Opened.{AreOpened};
 
 use crate::fault::FileFault;
 use crate::lane::FileLane;
-use crate::lanes::{Shared, found_lanes, share, written_lanes};
+use crate::lanes::{Shared, found_lanes, share, share_filled, written_lanes};
 use disk::{BLOCK_LEN, Lanes};
 use std::alloc::{AllocError, Global};
 use std::fs::{File, Files, Metadata, OpenOptions, TryLockError};
 use std::marker::Model;
-use std::os::unix::fs::FileExt;
 use std::path::Path;
 use std::sync::Arc;
 use std::{fs, io};
@@ -194,9 +193,9 @@ fn fill<R: Files<File = File>>(
 {
     lock(&file)?;
     settle_name(rt, path)?;
-    write_image(&file, image)?;
-    let (file, opened) = share(alloc, file)?;
-    let lanes = written_lanes(alloc, &file, &opened, image)?;
+    let (file, written) = share_filled(alloc, file, image)?;
+    let blocks = (image.len() / BLOCK_LEN) as u32;
+    let lanes = written_lanes(alloc, &file, &written, blocks)?;
     Ok(FileDisk { lanes, file })
 }
 
@@ -236,16 +235,6 @@ fn blocks_of(file: &File) -> Result<u32, FileFault>
         return Err(FileFault::BadLength(length));
     }
     Ok(blocks as u32)
-}
-
-/// Writes block 0 last, once the others are settled.
-fn write_image(file: &File, image: &[u8]) -> io::Result<()>
-    requires { 512 ≤ length image.now }
-{
-    let (first, rest) = image.split_at(BLOCK_LEN);
-    file.write_all_at(rest, BLOCK_LEN as u64)?;
-    file.sync_all()?;
-    file.write_all_at(first, 0)
 }
 
 /// Settles the name of a file that was made, by a sync of its folder.

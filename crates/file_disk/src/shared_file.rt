@@ -1,11 +1,17 @@
 // What all lanes of a file share: its handle, and which of its syncs were good.
 //
-// No clause can say what a file holds, nor what an atomic does. So two things about this module are to be read, and not
-// proved: a `GoodSync` of a number is made only where the sync of that number was good, or the one by which the file was
-// opened; and the number that a write answers is that of a sync that begins after the write.
-ghost use Rattle.std.specs.Prelude.{◌≡◌, ◌≤◌, ◌*◌, IfSome};
+// No clause can say what a file holds, nor what an atomic does. So this module is to be read, and not only proved: a `FoundBlock` is
+// made only where the file brought exactly these bytes from the place of the block of that number, or took them there; a `GoodSync` of
+// a number only where the sync of that number was good, or the one by which the file was opened; the number that a write is given is
+// that of a sync that begins after it; and all that is written to the file is given to the block that it is written for.
+ghost use Rattle.std.specs.Prelude.{◌≡◌, ◌≤◌, ◌+◌, ◌*◌, ◌⊎◌, length, false, IsTrue, IfSome, IfOk, OnOk, OnErr};
+ghost use Rattle.disk.specs.Images.{block_of_image};
+ghost use Rattle.file_disk.specs.File.{fresh_kept, with_found, with_given};
 
+use crate::fault::FileFault;
+use crate::kept_block::KeptBlock;
 use disk::BLOCK_LEN;
+use std::alloc::{AllocError, Global};
 use std::fs::File;
 use std::os::unix::fs::FileExt;
 use std::sync::Mutex;
@@ -58,11 +64,70 @@ impl GoodSync {
     }
 }
 
+/// The bytes that the file brought from the place of the block of this number, or took there.
+#[derive(Drop)]
+pub(crate) struct FoundBlock {
+    number: u32,
+    bytes: [u8; BLOCK_LEN],
+}
+
+impl FoundBlock {
+    pub(crate) fn number(&self) -> u32
+        ensures { result ≡ self.now.number }
+    {
+        self.number
+    }
+
+    pub(crate) fn bytes(&self) -> &[u8; BLOCK_LEN]
+        ensures { result.now ≡ self.now.bytes }
+    {
+        &self.bytes
+    }
+}
+
+/// An image that was written to a file, and settled.
+#[derive(Drop)]
+pub(crate) struct WrittenImage<'a> {
+    image: &'a [u8],
+    settled: GoodSync,
+}
+
+impl WrittenImage<'_> {
+    /// A block of it. `Err` comes only for want of memory.
+    pub(crate) fn block(&self, alloc: Global, number: u32) -> Result<KeptBlock, AllocError>
+        requires { 512 * number + 512 ≤ length self.now.image.now }
+        ensures { IfOk result (λ block. block ≡ fresh_kept number (block_of_image self.now.image.now number)) }
+    {
+        let start = BLOCK_LEN * number as usize;
+        let bytes = match self.image[start..start + BLOCK_LEN].as_array() {
+            Some(bytes) => *bytes,
+            None => unreachable!(),
+        };
+        KeptBlock::new(alloc, &FoundBlock { number, bytes }, &self.settled)
+    }
+}
+
 impl SharedFile {
     /// Settles what the system holds of a file.
     pub(crate) fn new(file: File) -> io::Result<(SharedFile, GoodSync)> {
         file.sync_all()?;
         Ok((SharedFile::never_synced(file), GoodSync { number: 0 }))
+    }
+
+    /// Writes an image to a file that was just made, and settles it: block 0 last, once the others are.
+    pub(crate) fn filled<'a>(
+        file: File,
+        image: &'a [u8],
+    ) -> io::Result<(SharedFile, WrittenImage<'a>)>
+        requires { 512 ≤ length image.now }
+        ensures { IfOk result (λ both. both.1.image.now ≡ image.now) }
+    {
+        let (first, rest) = image.split_at(BLOCK_LEN);
+        file.write_all_at(rest, BLOCK_LEN as u64)?;
+        file.sync_all()?;
+        file.write_all_at(first, 0)?;
+        let (file, settled) = SharedFile::new(file)?;
+        Ok((file, WrittenImage { image, settled }))
     }
 
     /// No sync of this file has begun.
@@ -77,9 +142,81 @@ impl SharedFile {
         }
     }
 
-    /// Reads a block. After `Ok` all of it came.
-    pub(crate) fn read_block(&self, block: u32, into: &mut [u8; BLOCK_LEN]) -> io::Result<()> {
-        self.noted(self.file.read_exact_at(into, offset(block)))
+    /// What the file brings from the place of a block.
+    fn find_block(&self, number: u32) -> io::Result<FoundBlock>
+        ensures { IfOk result (λ found. found.number ≡ number) }
+    {
+        let mut bytes = [0; BLOCK_LEN];
+        self.noted(self.file.read_exact_at(&mut bytes, offset(number)))?;
+        Ok(FoundBlock { number, bytes })
+    }
+
+    /// Writes bytes to the place of a block. After `Ok` all of them went to the system.
+    fn put_block(&self, number: u32, from: &[u8; BLOCK_LEN]) -> io::Result<FoundBlock>
+        ensures { IfOk result (λ found. found ≡ record { number = number; bytes = from.now }) }
+    {
+        self.noted(self.file.write_all_at(from, offset(number)))?;
+        Ok(FoundBlock {
+            number,
+            bytes: *from,
+        })
+    }
+
+    /// A block as the file has it, which was settled when it was opened.
+    pub(crate) fn open_block(
+        &self,
+        alloc: Global,
+        number: u32,
+        opened: &GoodSync,
+    ) -> Result<KeptBlock, FileFault>
+        ensures kept { IfOk result (λ block. block ≡ fresh_kept number block.bytes) }
+        ensures long { IfOk result (λ block. length block.bytes ≡ 512) }
+    {
+        let found = self.find_block(number)?;
+        Ok(KeptBlock::new(alloc, &found, opened)?)
+    }
+
+    /// Reads a block. Answers whether the file brings the bytes that the block has: then `into` has them, and the block is in no doubt.
+    pub(crate) fn read_block(&self, block: &mut KeptBlock, into: &mut [u8; BLOCK_LEN]) -> bool
+        ensures read { IsTrue result → into.new ≡ block.old.bytes }
+        ensures found { IsTrue result → block.new ≡ with_found block.old block.old.bytes }
+        ensures other { result ≡ false → block.new ≡ block.old }
+    {
+        if let Ok(found) = self.find_block(block.number())
+            && *found.bytes() == *block.bytes()
+        {
+            *into = *found.bytes();
+            block.find(&found);
+            return true;
+        }
+        false
+    }
+
+    /// Writes a block, and gives these bytes to its open writes. After an `Err` the block is in doubt.
+    pub(crate) fn write_block(
+        &self,
+        block: &mut KeptBlock,
+        from: &[u8; BLOCK_LEN],
+    ) -> io::Result<()>
+        ensures ok { OnOk result (block.new ≡ with_found (with_given block.old from.now block.new.settled_by) from.now) }
+        ensures err { OnErr result (block.new ≡ with_given block.old from.now block.new.settled_by) }
+    {
+        let written = self.put_block(block.number(), from);
+        block.give(from, self.next_sync());
+        block.find(&written?);
+        Ok(())
+    }
+
+    /// Reads a block back whose write of these bytes failed. Where the file brings them the block has them from here on, and where it
+    /// brings those from before it has these; else it stays in doubt.
+    pub(crate) fn read_back(&self, block: &mut KeptBlock, from: &[u8; BLOCK_LEN])
+        ensures { (block.new ≡ block.old) ⊎ ((block.new ≡ with_found block.old block.old.bytes) ⊎ (block.new ≡ with_found block.old from.now)) }
+    {
+        if let Ok(found) = self.find_block(block.number())
+            && (*found.bytes() == *from || *found.bytes() == *block.bytes())
+        {
+            block.find(&found);
+        }
     }
 
     /// Keeps the number of an error, where it is the first.
@@ -102,11 +239,9 @@ impl SharedFile {
         }
     }
 
-    /// Writes a block, and answers the number of the first sync that settles it: one that has not begun. After `Ok` all of
-    /// the block went to the system.
-    pub(crate) fn write_block(&self, block: u32, from: &[u8; BLOCK_LEN]) -> (io::Result<()>, u64) {
-        let written = self.noted(self.file.write_all_at(from, offset(block)));
-        (written, self.begun.load(Ordering::SeqCst).saturating_add(1))
+    /// The number of the first sync that has not begun.
+    fn next_sync(&self) -> u64 {
+        self.begun.load(Ordering::SeqCst).saturating_add(1)
     }
 
     /// A good sync of this number or a later one. Where there is none yet it waits for the sync that runs, without sleep, as a
