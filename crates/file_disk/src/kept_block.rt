@@ -2,14 +2,15 @@
 ghost use Rattle.std.specs.Prelude.{◌≡◌, ◌≤◌, [], ◌∷◌, false, IfOk};
 ghost use Rattle.file_disk.specs.File.{KeptBytes, fresh_kept, with_found, with_given};
 
+use crate::found_block::FoundBlock;
 use crate::open_writes::OpenWrites;
-use crate::shared_file::{FoundBlock, GoodSync};
+use crate::shared_file::GoodSync;
 use disk::BLOCK_LEN;
 use std::alloc::{AllocError, Global};
 use std::marker::Model;
 
 /// The bytes that a block has, and its writes that may not be settled. Each write puts the block in doubt, and nothing ends that but
-/// a `FoundBlock`, which only `shared_file` makes.
+/// a `FoundBlock`.
 ///
 /// The bytes stand behind a pointer, since a lane goes from hand to hand with each write.
 #[derive(Drop)]

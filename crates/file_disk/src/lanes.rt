@@ -4,8 +4,10 @@ ghost use Rattle.disk.specs.Images.{HoldsBytes, block_of_image};
 ghost use Rattle.file_disk.specs.Opened.{AreOpened, IsOpened};
 
 use crate::fault::FileFault;
+use crate::found_block::WrittenImage;
+use crate::kept_block::KeptBlock;
 use crate::lane::FileLane;
-use crate::shared_file::{GoodSync, SharedFile, WrittenImage};
+use crate::shared_file::{GoodSync, SharedFile};
 use disk::Lanes;
 use std::alloc::Global;
 use std::fs::File;
@@ -37,6 +39,7 @@ pub(crate) fn found_lanes(
 pub(crate) fn written_lanes(
     alloc: Global,
     file: &Shared,
+    opened: &GoodSync,
     written: &WrittenImage<'_>,
     blocks: u32,
 ) -> Result<Lanes<FileLane>, FileFault>
@@ -46,7 +49,7 @@ pub(crate) fn written_lanes(
 {
     let mut lanes = Lanes::new(alloc, blocks)?;
     for block in 0..blocks {
-        let lane = written_lane(alloc, file, written, block)?;
+        let lane = written_lane(alloc, file, opened, written, block)?;
         if lanes.give(lane).is_err() {
             unreachable!();
         }
@@ -57,25 +60,8 @@ pub(crate) fn written_lanes(
 /// Settles a file, to be shared by its lanes.
 pub(crate) fn share(alloc: Global, file: File) -> Result<(Shared, GoodSync), FileFault> {
     let (file, opened) = SharedFile::new(file)?;
-    Ok((shared(alloc, file)?, opened))
-}
-
-/// Writes an image to a file that was just made, and settles it, to be shared by its lanes.
-pub(crate) fn share_filled<'a>(
-    alloc: Global,
-    file: File,
-    image: &'a [u8],
-) -> Result<(Shared, WrittenImage<'a>), FileFault>
-    requires { 512 ≤ length image.now }
-    ensures { IfOk result (λ both. both.1.image.now ≡ image.now) }
-{
-    let (file, written) = SharedFile::filled(file, image)?;
-    Ok((shared(alloc, file)?, written))
-}
-
-fn shared(alloc: Global, file: SharedFile) -> Result<Shared, FileFault> {
     match Arc::new(alloc, file) {
-        Ok(file) => Ok(file),
+        Ok(file) => Ok((file, opened)),
         Err(_) => Err(FileFault::NoMemory),
     }
 }
@@ -98,6 +84,7 @@ fn found_lane(
 fn written_lane(
     alloc: Global,
     file: &Shared,
+    opened: &GoodSync,
     written: &WrittenImage<'_>,
     block: u32,
 ) -> Result<FileLane, FileFault>
@@ -105,7 +92,7 @@ fn written_lane(
     ensures opened { IfOk result (λ lane. IsOpened block (Some (Some lane))) }
     ensures bytes { IfOk result (λ lane. lane.bytes ≡ block_of_image written.now.image.now block) }
 {
-    let block = written.block(alloc, block)?;
+    let block = KeptBlock::new(alloc, &written.block(block), opened)?;
     let file = Arc::try_clone(file)?;
     Ok(FileLane::new(file, block))
 }

@@ -18,6 +18,7 @@
 #![tactic(auto)]
 
 mod fault;
+mod found_block;
 mod kept_block;
 mod lane;
 mod lanes;

@@ -1,11 +1,12 @@
 // A file as a disk: made or opened, and locked.
-ghost use Rattle.std.specs.Prelude.{◌≡◌, ◌≤◌, ◌*◌, ◌/◌, ◌%◌, length, replicate, IfOk};
+ghost use Rattle.std.specs.Prelude.{◌≡◌, ◌≤◌, ◌*◌, ◌/◌, ◌%◌, length, replicate, IfOk, IfSome, IsSome};
 ghost use Rattle.disk.specs.Images.{HoldsBytes};
 ghost use Rattle.file_disk.specs.Opened.{AreOpened};
 
 use crate::fault::FileFault;
+use crate::found_block::WrittenImage;
 use crate::lane::FileLane;
-use crate::lanes::{Shared, found_lanes, share, share_filled, written_lanes};
+use crate::lanes::{Shared, found_lanes, share, written_lanes};
 use disk::{BLOCK_LEN, Lanes};
 use std::alloc::{AllocError, Global};
 use std::fs::{File, Files, Metadata, OpenOptions, TryLockError};
@@ -193,9 +194,10 @@ fn fill<R: Files<File = File>>(
 {
     lock(&file)?;
     settle_name(rt, path)?;
-    let (file, written) = share_filled(alloc, file, image)?;
+    let written = WrittenImage::write(&file, image)?;
+    let (file, opened) = share(alloc, file)?;
     let blocks = (image.len() / BLOCK_LEN) as u32;
-    let lanes = written_lanes(alloc, &file, &written, blocks)?;
+    let lanes = written_lanes(alloc, &file, &opened, &written, blocks)?;
     Ok(FileDisk { lanes, file })
 }
 
@@ -226,15 +228,25 @@ fn blocks_of(file: &File) -> Result<u32, FileFault>
     if !found.is_file() {
         return Err(FileFault::NotAFile);
     }
-    let length = found.len();
+    match blocks_in(found.len()) {
+        Some(blocks) => Ok(blocks),
+        None => Err(FileFault::BadLength(found.len())),
+    }
+}
+
+/// How many blocks a disk of so many bytes has; `None` where no disk has so many.
+fn blocks_in(length: u64) -> Option<u32>
+    ensures some { IfSome result (λ blocks. (length ≡ 512 * blocks) × (32 ≤ blocks) × (blocks ≤ 32768)) }
+    ensures all { length % 512 ≡ 0 → 512 * 32 ≤ length → length ≤ 512 * 32768 → IsSome result }
+{
     let blocks = length / BLOCK_LEN as u64;
     if length % BLOCK_LEN as u64 != 0
         || blocks < u64::from(MIN_BLOCKS)
         || blocks > u64::from(MAX_BLOCKS)
     {
-        return Err(FileFault::BadLength(length));
+        return None;
     }
-    Ok(blocks as u32)
+    Some(blocks as u32)
 }
 
 /// Settles the name of a file that was made, by a sync of its folder.

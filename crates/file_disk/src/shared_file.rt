@@ -1,19 +1,17 @@
 // What all lanes of a file share: its handle, and which of its syncs were good.
 //
-// No clause can say what a file holds, nor what an atomic does. So this module is to be read, and not only proved: a `FoundBlock` is
-// made only where the file brought exactly these bytes from the place of the block of that number, or took them there; a `GoodSync` of
-// a number only where the sync of that number was good, or the one by which the file was opened; the number that a write is given is
-// that of a sync that begins after it; and all that is written to the file is given to the block that it is written for.
-ghost use Rattle.std.specs.Prelude.{◌≡◌, ◌≤◌, ◌+◌, ◌*◌, ◌⊎◌, length, false, IsTrue, IfSome, IfOk, OnOk, OnErr};
-ghost use Rattle.disk.specs.Images.{block_of_image};
+// No clause can say what an atomic holds, nor when a sync ran. So two things about this module are to be read, and not proved: a
+// `GoodSync` of a number is made only where the sync of that number was good, or the one by which the file was opened; and the number
+// that a write is given is that of a sync that begins after the write.
+ghost use Rattle.std.specs.Prelude.{◌≡◌, ◌≤◌, ◌⊎◌, length, false, IsTrue, IfSome, IfOk, OnOk, OnErr};
 ghost use Rattle.file_disk.specs.File.{fresh_kept, with_found, with_given};
 
 use crate::fault::FileFault;
+use crate::found_block::FoundBlock;
 use crate::kept_block::KeptBlock;
 use disk::BLOCK_LEN;
-use std::alloc::{AllocError, Global};
+use std::alloc::Global;
 use std::fs::File;
-use std::os::unix::fs::FileExt;
 use std::sync::Mutex;
 use std::sync::atomic::{AtomicBool, AtomicU64, Ordering};
 use std::{io, thread};
@@ -64,70 +62,11 @@ impl GoodSync {
     }
 }
 
-/// The bytes that the file brought from the place of the block of this number, or took there.
-#[derive(Drop)]
-pub(crate) struct FoundBlock {
-    number: u32,
-    bytes: [u8; BLOCK_LEN],
-}
-
-impl FoundBlock {
-    pub(crate) fn number(&self) -> u32
-        ensures { result ≡ self.now.number }
-    {
-        self.number
-    }
-
-    pub(crate) fn bytes(&self) -> &[u8; BLOCK_LEN]
-        ensures { result.now ≡ self.now.bytes }
-    {
-        &self.bytes
-    }
-}
-
-/// An image that was written to a file, and settled.
-#[derive(Drop)]
-pub(crate) struct WrittenImage<'a> {
-    image: &'a [u8],
-    settled: GoodSync,
-}
-
-impl WrittenImage<'_> {
-    /// A block of it. `Err` comes only for want of memory.
-    pub(crate) fn block(&self, alloc: Global, number: u32) -> Result<KeptBlock, AllocError>
-        requires { 512 * number + 512 ≤ length self.now.image.now }
-        ensures { IfOk result (λ block. block ≡ fresh_kept number (block_of_image self.now.image.now number)) }
-    {
-        let start = BLOCK_LEN * number as usize;
-        let bytes = match self.image[start..start + BLOCK_LEN].as_array() {
-            Some(bytes) => *bytes,
-            None => unreachable!(),
-        };
-        KeptBlock::new(alloc, &FoundBlock { number, bytes }, &self.settled)
-    }
-}
-
 impl SharedFile {
     /// Settles what the system holds of a file.
     pub(crate) fn new(file: File) -> io::Result<(SharedFile, GoodSync)> {
         file.sync_all()?;
         Ok((SharedFile::never_synced(file), GoodSync { number: 0 }))
-    }
-
-    /// Writes an image to a file that was just made, and settles it: block 0 last, once the others are.
-    pub(crate) fn filled<'a>(
-        file: File,
-        image: &'a [u8],
-    ) -> io::Result<(SharedFile, WrittenImage<'a>)>
-        requires { 512 ≤ length image.now }
-        ensures { IfOk result (λ both. both.1.image.now ≡ image.now) }
-    {
-        let (first, rest) = image.split_at(BLOCK_LEN);
-        file.write_all_at(rest, BLOCK_LEN as u64)?;
-        file.sync_all()?;
-        file.write_all_at(first, 0)?;
-        let (file, settled) = SharedFile::new(file)?;
-        Ok((file, WrittenImage { image, settled }))
     }
 
     /// No sync of this file has begun.
@@ -142,24 +81,15 @@ impl SharedFile {
         }
     }
 
-    /// What the file brings from the place of a block.
+    /// Reads the place of a block.
     fn find_block(&self, number: u32) -> io::Result<FoundBlock>
         ensures { IfOk result (λ found. found.number ≡ number) }
     {
-        let mut bytes = [0; BLOCK_LEN];
-        self.noted(self.file.read_exact_at(&mut bytes, offset(number)))?;
-        Ok(FoundBlock { number, bytes })
-    }
-
-    /// Writes bytes to the place of a block. After `Ok` all of them went to the system.
-    fn put_block(&self, number: u32, from: &[u8; BLOCK_LEN]) -> io::Result<FoundBlock>
-        ensures { IfOk result (λ found. found ≡ record { number = number; bytes = from.now }) }
-    {
-        self.noted(self.file.write_all_at(from, offset(number)))?;
-        Ok(FoundBlock {
-            number,
-            bytes: *from,
-        })
+        let found = FoundBlock::read(&self.file, number);
+        if let Err(error) = &found {
+            self.note(error);
+        }
+        found
     }
 
     /// A block as the file has it, which was settled when it was opened.
@@ -201,8 +131,11 @@ impl SharedFile {
         ensures ok { OnOk result (block.new ≡ with_found (with_given block.old from.now block.new.settled_by) from.now) }
         ensures err { OnErr result (block.new ≡ with_given block.old from.now block.new.settled_by) }
     {
-        let written = self.put_block(block.number(), from);
+        let written = FoundBlock::write(&self.file, block.number(), from);
         block.give(from, self.next_sync());
+        if let Err(error) = &written {
+            self.note(error);
+        }
         block.find(&written?);
         Ok(())
     }
@@ -220,15 +153,13 @@ impl SharedFile {
     }
 
     /// Keeps the number of an error, where it is the first.
-    fn noted(&self, answer: io::Result<()>) -> io::Result<()> {
-        if let Err(error) = &answer
-            && let Some(number) = error.raw_os_error()
+    fn note(&self, error: &io::Error) {
+        if let Some(number) = error.raw_os_error()
             && self.error.load(Ordering::SeqCst) == 0
         {
             let number = u64::try_from(number).unwrap_or(0);
             self.error.store(number, Ordering::SeqCst);
         }
-        answer
     }
 
     /// The first error that the system answered to a read, a write or a sync.
@@ -305,18 +236,12 @@ impl SharedFile {
         }
         let number = begun + 1;
         self.begun.store(number, Ordering::SeqCst);
-        if self.noted(self.file.sync_data()).is_err() {
+        if let Err(error) = self.file.sync_data() {
+            self.note(&error);
             self.failed.store(true, Ordering::SeqCst);
             return None;
         }
         self.good.store(number, Ordering::SeqCst);
         Some(GoodSync { number })
     }
-}
-
-/// Where a block begins in the file.
-fn offset(block: u32) -> u64
-    ensures { result ≡ 512 * block }
-{
-    BLOCK_LEN as u64 * u64::from(block)
 }
