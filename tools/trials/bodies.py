@@ -19,7 +19,8 @@ JOBS = 2
 
 @dataclass
 class Body:
-    """A wrong body: its file, the programs in which it counts, a text of the file, what stands there in its place, and the scenes that fail."""
+    """A wrong body: its file, the programs in which it counts, a text of the file, what stands there in its place, and the scenes that fail. Without programs
+    it is the tests of its tree that see it."""
 
     path: str
     programs: list
@@ -31,6 +32,7 @@ class Body:
 LOCKING, REAL, TAKING, REPLACING = (f"crates/system_files/src/{it}.rt" for it in ("locking", "real", "taking", "replacing"))
 LINES, MAIN = "crates/xnsim/src/files.rt", "crates/xnsim/src/main.rt"
 XNFS_LINE = "crates/xnfs_line/src/"
+FOUND_BLOCK, OPENING, SHARED_FILE = (f"crates/file_disk/src/{it}.rt" for it in ("found_block", "opening", "shared_file"))
 BODIES = {
     "no_create_new": Body(
         REAL, ["xnsim"],
@@ -78,7 +80,7 @@ BODIES = {
         LOCKING, ["xnsim"],
         "        lock(&file, access)?;\n",
         "",
-        ["a_run_has_its_image_alone", "a_lock_of_anybody_is_kept"],
+        ["a_run_has_its_image_alone", "a_lock_of_anybody_is_kept", "a_disk_that_is_open_is_opened_by_nobody_else"],
     ),
     "disk_not_looked_at_again": Body(
         LOCKING, ["xnfs", "xnsim"],
@@ -91,6 +93,93 @@ BODIES = {
         "    if !found.is_file() {",
         "    if found.is_symlink() {",
         ["a_pipe_is_no_disk_of_xnfs"],
+    ),
+    "found_at_block_0": Body(
+        FOUND_BLOCK, [],
+        "file.read_exact_at(&mut bytes, offset(number))?;",
+        "file.read_exact_at(&mut bytes, offset(0 * number))?;",
+        ["a_file_has_what_is_written_to_its_lanes"],
+    ),
+    "written_at_block_0": Body(
+        FOUND_BLOCK, [],
+        "file.write_all_at(from, offset(number))?;",
+        "file.write_all_at(from, offset(0 * number))?;",
+        ["a_file_has_what_is_written_to_its_lanes"],
+    ),
+    "image_is_not_written": Body(
+        FOUND_BLOCK, [],
+        "file.write_all_at(rest, BLOCK_LEN as u64)?;",
+        "file.write_all_at(rest, 0)?;",
+        ["a_file_has_what_is_written_to_its_lanes"],
+    ),
+    "block_0_is_written_first": Body(
+        FOUND_BLOCK, ["xnfs"],
+        "        file.write_all_at(rest, BLOCK_LEN as u64)?;\n        file.sync_all()?;\n        file.write_all_at(first, 0)?;\n",
+        "        file.write_all_at(first, 0)?;\n        file.sync_all()?;\n        file.write_all_at(rest, BLOCK_LEN as u64)?;\n",
+        ["block_0_of_a_new_disk_is_written_last"],
+    ),
+    "read_asks_no_file": Body(
+        SHARED_FILE, [],
+        "        if let Ok(found) = self.find_block(block.number())\n            && *found",
+        "        if !block.is_in_doubt() {\n            *into = *block.bytes();\n            return true;\n        }\n"
+        "        if let Ok(found) = self.find_block(block.number())\n            && *found",
+        ["what_others_write_into_a_disk_is_a_fault"],
+    ),
+    "open_finds_32_blocks": Body(
+        OPENING, [],
+        "found_lanes(alloc, &file, &opened, blocks)?;",
+        "found_lanes(alloc, &file, &opened, blocks.min(32))?;",
+        ["a_file_has_what_is_written_to_its_lanes"],
+    ),
+    "make_empties_what_is_there": Body(
+        OPENING, [],
+        "        .create_new(true)\n",
+        "        .create(true)\n        .truncate(true)\n",
+        ["what_is_no_disk_is_refused_and_kept"],
+    ),
+    "new_disk_not_locked": Body(
+        OPENING, ["xnfs"],
+        "Err(TryLockError::WouldBlock) => Err(FileFault::InUse),",
+        "Err(TryLockError::WouldBlock) => Ok(()),",
+        ["a_new_disk_is_locked_before_it_is_written"],
+    ),
+    "name_is_not_settled": Body(
+        OPENING, ["xnfs"],
+        "    File::open(rt, folder)?.sync_all()?;\n",
+        "    let _ = File::open(rt, folder)?;\n",
+        ["the_name_of_a_new_disk_is_settled"],
+    ),
+    "open_settles_nothing": Body(
+        SHARED_FILE, ["xnfs"],
+        "        file.sync_all()?;\n",
+        "",
+        ["what_the_system_holds_of_a_disk_is_settled_first"],
+    ),
+    "failed_sync_is_good": Body(
+        SHARED_FILE, [],
+        "            self.note(&error);\n            self.failed.store(true, Ordering::SeqCst);\n            return None;\n",
+        "            self.note(&error);\n",
+        ["a_sync_of_a_disk_that_failed_is_for_good"],
+    ),
+    "sync_is_made_up": Body(
+        SHARED_FILE, ["xnfs"],
+        "        for _ in 0..u64::MAX {\n            if let Some(good)",
+        "        for _ in 0..u64::MAX {\n            if wanted == 7 {\n                return Some(GoodSync { number: wanted });\n            }\n"
+        "            if let Some(good)",
+        ["no_sync_of_a_disk_is_made_up"],
+    ),
+    "write_counts_the_sync_under_way": Body(
+        SHARED_FILE, [],
+        "        self.begun.load(Ordering::SeqCst).saturating_add(1)\n",
+        "        self.begun.load(Ordering::SeqCst)\n",
+        ["a_sync_of_a_disk_that_failed_is_for_good"],
+    ),
+    "write_counts_the_sync_of_another_thread": Body(
+        SHARED_FILE, [],
+        "        self.begun.load(Ordering::SeqCst).saturating_add(1)\n",
+        "        let begun = self.begun.load(Ordering::SeqCst);\n        match self.turn.try_lock() {\n            Some(_turn) => begun.saturating_add(1),\n"
+        "            None => begun,\n        }\n",
+        ["a_write_is_settled_by_a_sync_that_begins_after_it"],
     ),
     "target_not_locked": Body(
         REAL, ["xnsim"],
@@ -263,11 +352,11 @@ def build(tree, program, out):
         code_alone.build(kit_of(), tree, program, out, room, code_alone.UNOPTIMIZED)
 
 
-def scene_fails(folder, paths, scene):
-    """Whether a scene fails with these programs, and its line."""
+def scene_fails(folder, paths, scene, tree):
+    """Whether a scene fails with these programs, or with the tests of this tree, and its line."""
     named = {program.upper(): path for program, path in paths.items()}
     words = [sys.executable, os.path.join(TOP, "tools", "outside"), "edges", scene]
-    done = subprocess.run(words, cwd=folder, env={**os.environ, **named}, capture_output=True, text=True, check=False)
+    done = subprocess.run(words, cwd=folder, env={**os.environ, **named, "TREE": tree}, capture_output=True, text=True, check=False)
     line = next((line for line in done.stdout.splitlines() if f"{scene}: " in line), done.stderr[-300:])
     return done.returncode == 1 and line.startswith("wrong: "), line
 
@@ -291,7 +380,7 @@ def planted(name, usual):
                 build(tree, program, paths[program])
             except NotMade as error:
                 return [(False, f"no program: {error}")]
-        return [scene_fails(room, paths, scene) for scene in body.scenes]
+        return [scene_fails(room, paths, scene, tree) for scene in body.scenes]
 
 
 def try_bodies(names):
@@ -305,7 +394,7 @@ def try_bodies(names):
         print(f"code alone, built of {TOP} with each wrong body", flush=True)
         list(pool.map(lambda program: build(tree, program, usual[program]), PROGRAMS))
         for scene in dict.fromkeys(scene for name in names for scene in BODIES[name].scenes):
-            fails, line = scene_fails(room, usual, scene)
+            fails, line = scene_fails(room, usual, scene, tree)
             if fails:
                 tally.fault(f"without a wrong body {line}")
         for name, seen in zip(names, pool.map(lambda name: planted(name, usual), names)):

@@ -5,11 +5,11 @@ import subprocess
 import tempfile
 
 from trials.programs import give_up
-from trials.scenes import images, locks, outputs, stops, streams, targets
+from trials.scenes import disk_files, images, locks, outputs, stops, streams, targets
 from trials.scenes.room import Fault
 from trials.tally import Tally
 
-MODULES = (targets, outputs, streams, locks, images, stops)
+MODULES = (targets, outputs, streams, locks, disk_files, images, stops)
 SCENES = {name: it for module in MODULES for name, it in vars(module).items() if hasattr(it, "is_scene")}
 
 
