@@ -8,36 +8,49 @@ pub record OpenWriteBytes : Type 0 where
   pub may_leave : List (List ℕ)
   pub settled_by : ℕ
 
--- What a lane keeps of its block: the bytes that a read gives, and the writes of it that may not be settled. It is in doubt from each write on,
--- until that write was done, or the file has brought these bytes since.
+-- What a lane keeps of its block: the bytes that a read gives, whether they are in doubt, and the writes that may not be settled. They are in doubt from
+-- each write on, until it was done, or the file has brought them since.
 pub record KeptBytes : Type 0 where
   pub number : ℕ
   pub bytes : List ℕ
   pub in_doubt : Bool
-  pub may_leave : List (List ℕ)
-  pub settled_by : ℕ
+  pub writes : OpenWriteBytes
+
+-- no writes of a block with these bytes, which the sync of this number settled
+abbrev pub no_writes : List ℕ → ℕ → OpenWriteBytes
+no_writes bytes settled_by = record { may_leave = bytes ∷ []; settled_by = settled_by }
 
 -- a block that is settled with these bytes
 abbrev pub fresh_kept : ℕ → List ℕ → KeptBytes
-fresh_kept number bytes = record { number = number; bytes = bytes; in_doubt = false; may_leave = bytes ∷ []; settled_by = 0 }
+fresh_kept number bytes = record { number = number; bytes = bytes; in_doubt = false; writes = no_writes bytes 0 }
 
 -- the block after these bytes were given to a write, which the sync of this number settles
 abbrev pub with_given : KeptBytes → List ℕ → ℕ → KeptBytes
-with_given block bytes settled_by = record block { in_doubt = true; may_leave = bytes ∷ block.may_leave; settled_by = settled_by }
+with_given block bytes settled_by =
+    record block { in_doubt = true; writes = record { may_leave = bytes ∷ block.writes.may_leave; settled_by = settled_by } }
 
 -- the block once the file has brought or taken these bytes
 abbrev pub with_found : KeptBytes → List ℕ → KeptBytes
 with_found block bytes = record block { bytes = bytes; in_doubt = false }
 
+-- the block after a sync that settles its bytes
+abbrev pub with_settled : KeptBytes → KeptBytes
+with_settled block = record block { writes = no_writes block.bytes block.writes.settled_by }
+
 pub record FileBlock : Type 0 where
   pub number : ℕ
   -- what a read gives
   pub bytes : List ℕ
-  -- whether the newest write failed, and the file has brought neither these bytes nor those of that write since
+  -- whether the newest write failed, and the file has not brought these bytes since
   pub in_doubt : Bool
   -- all bytes that a crash may leave: those of the last good sync, and those given to a write since
   pub may_leave : List (List ℕ)
   pub faults : ℕ
+
+-- what a lane says of its block, which has failed so often
+abbrev pub file_block : KeptBytes → ℕ → FileBlock
+file_block kept faults =
+    record { number = kept.number; bytes = kept.bytes; in_doubt = kept.in_doubt; may_leave = kept.writes.may_leave; faults = faults }
 
 -- a block that is settled with these bytes and has never failed
 abbrev pub fresh_block : ℕ → List ℕ → FileBlock
@@ -68,8 +81,7 @@ with_bytes block bytes = record block { bytes = bytes; in_doubt = false }
 abbrev pub with_doubt : FileBlock → FileBlock
 with_doubt block = record block { in_doubt = true }
 
--- What a read, a write and a sync of a block may answer, and the block after it. None that answers Ok leaves the block in doubt. Nothing is said of when
--- they fail.
+-- What a read, a write and a sync of a block may answer, and the block after it. After an Ok it is in no doubt. Nothing is said of when they fail.
 abbrev pub file_read : {E : Type 0} → FileBlock → Result (Unit {0}) E → FileBlock → Type 0
 file_read old (Ok done) new = new ≡ with_bytes old old.bytes
 file_read old (Err fault) new = new ≡ with_fault old

@@ -1,6 +1,6 @@
 // What a lane keeps of its block, and what may change it.
-ghost use Rattle.std.specs.Prelude.{◌≡◌, ◌≤◌, [], ◌∷◌, false, IfOk};
-ghost use Rattle.file_disk.specs.File.{KeptBytes, fresh_kept, with_found, with_given};
+ghost use Rattle.std.specs.Prelude.{◌≡◌, ◌≤◌, false, IfOk};
+ghost use Rattle.file_disk.specs.File.{KeptBytes, OpenWriteBytes, fresh_kept, with_found, with_given, with_settled};
 
 use crate::found_block::FoundBlock;
 use crate::open_writes::OpenWrites;
@@ -17,7 +17,7 @@ use std::marker::Model;
 pub(crate) struct KeptBlock {
     number: u32,
     bytes: Box<[u8; BLOCK_LEN]>,
-    /// Whether the newest write failed and the file brought neither `bytes` nor those of that write since.
+    /// Whether the newest write failed, and the file did not bring `bytes` since.
     in_doubt: bool,
     open_writes: OpenWrites,
 }
@@ -27,7 +27,7 @@ impl Model for KeptBlock {
 
     ghost Value = { KeptBytes };
 
-    ghost view = { λ a. record { number = a.number; bytes = a.bytes.value; in_doubt = a.in_doubt; may_leave = a.open_writes.may_leave; settled_by = a.open_writes.settled_by } };
+    ghost view = { λ a. record { number = a.number; bytes = a.bytes.value; in_doubt = a.in_doubt; writes = a.open_writes } };
 }
 
 impl KeptBlock {
@@ -69,7 +69,7 @@ impl KeptBlock {
 
     /// The number of the first sync that settles the newest write; 0 where there was none since the file was opened.
     pub(crate) fn settled_by(&self) -> u64
-        ensures { result ≡ self.now.settled_by }
+        ensures { result ≡ self.now.writes.settled_by }
     {
         self.open_writes.settled_by()
     }
@@ -94,9 +94,9 @@ impl KeptBlock {
 
     /// The bytes that the block has are settled by this sync.
     pub(crate) fn settle(&mut self, good: &GoodSync)
-        requires number { self.old.settled_by ≤ good.now.number }
+        requires number { self.old.writes.settled_by ≤ good.now.number }
         requires no_doubt { self.old.in_doubt ≡ false }
-        ensures { self.new ≡ record self.old { may_leave = self.old.bytes ∷ [] } }
+        ensures { self.new ≡ with_settled self.old }
     {
         let _is_in_doubt = self.in_doubt;
         self.open_writes.settle(&*self.bytes, good);

@@ -1,6 +1,6 @@
 // A block of a file.
 ghost use Rattle.std.specs.Prelude.{◌≡◌};
-ghost use Rattle.file_disk.specs.File.{FileBlock, KeptBytes, file_leaves, file_read, file_write, file_sync};
+ghost use Rattle.file_disk.specs.File.{FileBlock, KeptBytes, file_block, file_leaves, file_read, file_write, file_sync};
 
 use crate::kept_block::KeptBlock;
 use crate::shared_file::SharedFile;
@@ -18,11 +18,11 @@ pub struct FileLane {
 }
 
 impl Model for FileLane {
-    ghost use Rattle.file_disk.specs.File.{FileBlock};
+    ghost use Rattle.file_disk.specs.File.{FileBlock, file_block};
 
     ghost Value = { FileBlock };
 
-    ghost view = { λ a. record { number = a.block.number; bytes = a.block.bytes; in_doubt = a.block.in_doubt; may_leave = a.block.may_leave; faults = a.faults } };
+    ghost view = { λ a. file_block a.block a.faults };
 }
 
 /// Written by hand, so that a function that drops one calls this.
@@ -39,7 +39,7 @@ impl Drop for FileLane {
 impl FileLane {
     /// The lane of a block, which has never failed.
     pub(crate) fn new(file: Arc<SharedFile, Global>, block: KeptBlock) -> FileLane
-        ensures { result ≡ record { number = block.number; bytes = block.bytes; in_doubt = block.in_doubt; may_leave = block.may_leave; faults = 0 } }
+        ensures { result ≡ file_block block 0 }
     {
         FileLane {
             file,

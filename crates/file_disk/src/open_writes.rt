@@ -1,6 +1,7 @@
 // What a crash may leave in a block: a list that clauses read and no memory holds, and who may shorten it.
 ghost use Rattle.std.specs.Prelude.{◌≡◌, ◌≤◌, ℕ, List, [], ◌∷◌};
 ghost use Rattle.std.specs.Borrow.{ftrue};
+ghost use Rattle.file_disk.specs.File.{no_writes};
 
 use crate::shared_file::GoodSync;
 use std::marker::{Model, PhantomData};
@@ -53,7 +54,7 @@ impl Model for OpenWrites {
 impl OpenWrites {
     /// None, of a block with these bytes in a file that was settled when it was opened.
     pub(crate) fn none(bytes: &[u8], _opened: &GoodSync) -> OpenWrites
-        ensures { result ≡ record { may_leave = bytes.now ∷ []; settled_by = 0 } }
+        ensures { result ≡ no_writes bytes.now 0 }
     {
         let mut crash_list = CrashList::new();
         crash_list.give(bytes);
@@ -81,7 +82,7 @@ impl OpenWrites {
     /// The block has these bytes, and this good sync settles them.
     pub(crate) fn settle(&mut self, bytes: &[u8], good: &GoodSync)
         requires { self.old.settled_by ≤ good.now.number }
-        ensures { self.new ≡ record { may_leave = bytes.now ∷ []; settled_by = self.old.settled_by } }
+        ensures { self.new ≡ no_writes bytes.now self.old.settled_by }
     {
         let _number = good.number();
         self.crash_list = CrashList::new();

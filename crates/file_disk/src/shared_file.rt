@@ -128,8 +128,8 @@ impl SharedFile {
         block: &mut KeptBlock,
         from: &[u8; BLOCK_LEN],
     ) -> io::Result<()>
-        ensures ok { OnOk result (block.new ≡ with_found (with_given block.old from.now block.new.settled_by) from.now) }
-        ensures err { OnErr result (block.new ≡ with_given block.old from.now block.new.settled_by) }
+        ensures ok { OnOk result (block.new ≡ with_found (with_given block.old from.now block.new.writes.settled_by) from.now) }
+        ensures err { OnErr result (block.new ≡ with_given block.old from.now block.new.writes.settled_by) }
     {
         let written = FoundBlock::write(&self.file, block.number(), from);
         block.give(from, self.next_sync());

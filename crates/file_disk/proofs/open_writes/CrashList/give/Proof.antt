@@ -3,7 +3,7 @@ use Rattle.std.proofs.Common.{ℕ, List, [], ◌∷◌, refl, MutBor}
 use seplogic.Ra.Ura.{Ura}
 use mir.Syntax.{named}
 use mir.Val.{Val, vunit, vptr}
-use base.Logic.{SProp, ent, sep, emp, via, fst∗, id⊢}
+use base.Logic.{SProp, ent, emp, via, fst∗, id⊢}
 use base.Fml.{GName, Lft, Share, ftrue, flft, fobs, fbor}
 use prog.Memory.{Memory}
 use prog.Routine.{Routine}
@@ -11,13 +11,11 @@ use prog.Wp.{Calls, Loops, WpFn, Tables}
 use types.Logic.{Logic}
 use contract.Monad.{Fun}
 use contract.Running.{tables, tables_of}
-use types.Kit.{‵, ◌⊛◌, ◌$◌, ◌∵◌, !, qed, by, move, keep, drop, use1, split, join, fsplit, fsplit3, fjoin, fjoin3, feq_i, suffices, frame, done}
+use types.Kit.{‵, ◌⊛◌, ◌$◌, ◌∵◌, !, qed, move, keep, drop, use1, split, join, fsplit, fsplit3, fjoin, fjoin3, feq_i, suffices, frame, done}
 use types.Run.{unit_lit, of_opd, returns, enter}
-use types.SemTy.{Body}
 use types.ByLocal.{alloc_all, pass_all, free_all, look_at, sets}
 use sound.WpLaws.{WpFn-mono}
 use denote.RattleType.{owns}
-use denote.Memory.{mem}
 use denote.Ref.{MutRef, mut_vals, mut_Tells}
 use denote.Signature.{plain}
 use denote.Steps.{opens, closes}
@@ -62,13 +60,6 @@ module _ {M : Type 1} {𝓤 : Ura M} (𝓛 : Logic 𝓤) (at_mem : Memory → SP
   abbrev Post : Val → SProp 𝓤
   Post = (walk_of 𝓛 it.ended stayed (it.clauses 𝓛 at_mem run)).post (((κ, (κ', tt)), (q, (q', tt)), tt, x, at), tt)
 
-  exits : ent 𝓤 (sep 𝓤 (A.obs γ ((T.the_row).coded.code h')) (sep 𝓤 (A.bor κ (Body (mem T.the_row) b o γ)) (sep 𝓤 (A.lft κ q) (sep 𝓤 (types.Logic.sem 𝓛 rest) (sep 𝓤 (A.lft κ' q') (emp 𝓤)))))) (Post vunit)
-  exits =
-      qed 𝓛 (‵ (fobs γ ((T.the_row).coded.code h')) ∷ ‵ (fbor κ (Body (mem T.the_row) b o γ)) ∷ ‵ (flft κ q) ∷ ‵ rest ∷ (‵ (flft κ' q') ⊛ ‵ ftrue) ∷ []) ∵
-      suffices ! _ (ends_at 𝓛 it.ended stayed (it.clauses 𝓛 at_mem run) (((κ, (κ', tt)), (q, (q', tt)), tt, x, at), tt) vunit tt (h', (tt, tt)) (tt, (tt, tt))) $ says ! refl $ move ! (2 ∷ 4 ∷ []) $ join ! $
-      frame ! $ feq_i ! (List Val) (vptr b o ∷ []) (vptr b o ∷ []) refl $ fjoin3 ! $ fjoin ! $
-      feq_i ! (List Val) (vunit ∷ []) (vunit ∷ []) refl $ move ! (1 ∷ 0 ∷ []) $ done !
-
   module _ (C : Calls 𝓤 H) (Λ : Loops 𝓤 H) where
     walk : length s.now < 2 ^ 64 → ent 𝓤 (on_entry 𝓛 it.signature (κ, (κ', tt)) (q, (q', tt)) x at) (WpFn 𝓤 H C Λ code.function (vptr b o ∷ slice_val s.ref_ptr (length s.now) ∷ []) Post)
     walk fs =
@@ -79,7 +70,10 @@ module _ {M : Type 1} {𝓤 : Ura M} (𝓛 : Logic 𝓤) (at_mem : Memory → SP
         sets ! (of_opd ! (unit_lit !)) refl (tt, tt) $
         move ! (1 ∷ []) $ use1 𝓛 (‵ ((T.the_row).own_val h' vs)) (id⊢ 𝓤 _) $ move ! (1 ∷ 0 ∷ []) $ closes ! tt T.the_row h' vs b o $
         returns ! (look_at ! 0 refl) $ free_all ! refl $
-        keep ! (0 ∷ 1 ∷ 2 ∷ 3 ∷ 4 ∷ []) $ by ! exits))
+        keep ! (0 ∷ 1 ∷ 2 ∷ 3 ∷ 4 ∷ []) $
+        suffices ! _ (ends_at 𝓛 it.ended stayed (it.clauses 𝓛 at_mem run) (((κ, (κ', tt)), (q, (q', tt)), tt, x, at), tt) vunit tt (h', (tt, tt)) (tt, (tt, tt))) $ says ! refl $ move ! (2 ∷ 4 ∷ []) $ join ! $
+        frame ! $ feq_i ! (List Val) (vptr b o ∷ []) (vptr b o ∷ []) refl $ fjoin3 ! $ fjoin ! $
+        feq_i ! (List Val) (vunit ∷ []) (vunit ∷ []) refl $ move ! (1 ∷ 0 ∷ []) $ done !))
 
 module _ {M : Type 1} {𝓤 : Ura M} (𝓛 : Logic 𝓤) (at_mem : Memory → SProp 𝓤) (run : Routine → Fun 𝓤) where
   open 𝓛 use {H}
