@@ -4,9 +4,11 @@ ghost use Rattle.disk.specs.Images.{HoldsBytes, block_of_image};
 ghost use Rattle.file_disk.specs.Opened.{AreOpened, IsOpened};
 
 use crate::fault::FileFault;
+use crate::found_block::WrittenImage;
+use crate::kept_block::KeptBlock;
 use crate::lane::FileLane;
 use crate::shared_file::{GoodSync, SharedFile};
-use disk::{BLOCK_LEN, Lanes};
+use disk::Lanes;
 use std::alloc::Global;
 use std::fs::File;
 use std::sync::Arc;
@@ -33,22 +35,21 @@ pub(crate) fn found_lanes(
     Ok(lanes)
 }
 
-/// The same of a file that these bytes were just written to, which is not read.
+/// The same of a file that this image was just written to, which is not read.
 pub(crate) fn written_lanes(
     alloc: Global,
     file: &Shared,
     opened: &GoodSync,
-    image: &[u8],
+    written: &WrittenImage<'_>,
+    blocks: u32,
 ) -> Result<Lanes<FileLane>, FileFault>
-    requires whole { length image.now % 512 ≡ 0 }
-    requires most { length image.now ≤ 512 * 32768 }
-    ensures opened { IfOk result (λ lanes. AreOpened (length image.now / 512) lanes) }
-    ensures image { IfOk result (λ lanes. HoldsBytes (λ lane. lane.bytes) lanes image.now) }
+    requires whole { length written.now.image.now ≡ 512 * blocks }
+    ensures opened { IfOk result (λ lanes. AreOpened blocks lanes) }
+    ensures image { IfOk result (λ lanes. HoldsBytes (λ lane. lane.bytes) lanes written.now.image.now) }
 {
-    let blocks = (image.len() / BLOCK_LEN) as u32;
     let mut lanes = Lanes::new(alloc, blocks)?;
     for block in 0..blocks {
-        let lane = written_lane(alloc, file, opened, block, image)?;
+        let lane = written_lane(alloc, file, opened, written, block)?;
         if lanes.give(lane).is_err() {
             unreachable!();
         }
@@ -74,29 +75,24 @@ fn found_lane(
 ) -> Result<FileLane, FileFault>
     ensures { IfOk result (λ lane. IsOpened block (Some (Some lane))) }
 {
-    let mut bytes = [0; BLOCK_LEN];
-    file.read_block(block, &mut bytes)?;
+    let block = file.open_block(alloc, block, opened)?;
     let file = Arc::try_clone(file)?;
-    Ok(FileLane::new(alloc, file, block, &bytes, opened)?)
+    Ok(FileLane::new(file, block))
 }
 
-/// The lane of a block of a file that is settled, and has the bytes of this image.
+/// The lane of a block of a file that an image was written to.
 fn written_lane(
     alloc: Global,
     file: &Shared,
     opened: &GoodSync,
+    written: &WrittenImage<'_>,
     block: u32,
-    image: &[u8],
 ) -> Result<FileLane, FileFault>
-    requires { 512 * block + 512 ≤ length image.now }
+    requires { 512 * block + 512 ≤ length written.now.image.now }
     ensures opened { IfOk result (λ lane. IsOpened block (Some (Some lane))) }
-    ensures bytes { IfOk result (λ lane. lane.bytes ≡ block_of_image image.now block) }
+    ensures bytes { IfOk result (λ lane. lane.bytes ≡ block_of_image written.now.image.now block) }
 {
-    let start = BLOCK_LEN * block as usize;
-    let bytes = match image[start..start + BLOCK_LEN].as_array() {
-        Some(bytes) => bytes,
-        None => unreachable!(),
-    };
+    let block = KeptBlock::new(alloc, &written.block(block), opened)?;
     let file = Arc::try_clone(file)?;
-    Ok(FileLane::new(alloc, file, block, bytes, opened)?)
+    Ok(FileLane::new(file, block))
 }

@@ -1,23 +1,30 @@
 //! A disk in a file of the operating system, changed in place: one open handle, locked, and a lane for each block.
 //!
-//! It is proved that a `FileLane` meets the contract of `disk::Lane`, and that a file which is made or opened gives a lane for
-//! each of its blocks, settled and with no fault. No clause can say what a file holds. So these are to be read, and not proved:
+//! It is proved that a `FileLane` meets the contract of `disk::Lane`; that none of its reads and syncs answers Ok while its block is in
+//! doubt, which a write begins, and nothing ends but bytes that the file brought or took; and that a file which is made or opened gives
+//! a lane for each of its blocks, settled, in no doubt, and with no fault. No clause can say what a file holds, nor what an atomic
+//! does. So these are to be read, and not proved:
 //!
-//! - in `shared_file`, that a `GoodSync` is made only where the sync of that number was good, or the one by which the file was
-//!   opened, and that the number which a write answers is that of a sync which begins after it;
-//! - in `lane`, that each call goes to its own block's place of the file, and that the bytes which a lane keeps are those of its
-//!   last good write, or those that the file brought since;
+//! - in `found_block`, that a `FoundBlock` is made only where the file brought all of its bytes from the place of the block of its number,
+//!   or took all of them there; and that a `WrittenImage` is made only where the file took the whole image, each block in its own place,
+//!   with block 0 last, after a sync of the others;
+//! - in `shared_file`, that each read of a block asks the file; that what is found is used before the block is written again; that a
+//!   `GoodSync` is made only where the sync of that number was good, or the one by which the file was opened; and that the number which
+//!   a write is given is that of a sync which begins after it;
 //! - in `open_writes`, that the list of what a crash may leave, which no memory holds, is changed by these alone;
-//! - in `opening`, that a file is made only where nothing has its name, that its lock is taken and its name looked at again behind that, that its
-//!   length is that of the disk, that what the system still holds of it is synced before a block is read, and that of a file which is made all other
-//!   blocks are written and synced before block 0, and the folder is synced last;
-//! - in `lanes`, that each lane gets the bytes that its own block of the file has.
+//! - in `lanes`, that the sync by which a file is opened comes before its blocks are read, and that all lanes have that file;
+//! - in `opening`, that a file is made only where nothing has its name (`create_new`) and its lock is taken before it is written; that a file
+//!   that is there is locked, and its name looked at again behind that, before it is read (`system_files`); that a disk has as many
+//!   blocks as its file is long; that of a file which is made the folder is synced, and the image written before the sync by which
+//!   it is opened; and that what is removed where that fails is the file that was made.
 //!
 //! What is trusted of the system and of the drive stands in `docs/HEADLINE.md`.
 //! May touch: memory, threads, files.
 #![tactic(auto)]
 
 mod fault;
+mod found_block;
+mod kept_block;
 mod lane;
 mod lanes;
 mod open_writes;

@@ -1,16 +1,16 @@
 // A file as a disk: made or opened, and locked.
-ghost use Rattle.std.specs.Prelude.{◌≡◌, ◌≤◌, ◌*◌, ◌/◌, ◌%◌, length, replicate, IfOk};
+ghost use Rattle.std.specs.Prelude.{◌≡◌, ◌≤◌, ◌*◌, ◌/◌, ◌%◌, length, replicate, IfOk, IfSome, IsSome};
 ghost use Rattle.disk.specs.Images.{HoldsBytes};
 ghost use Rattle.file_disk.specs.Opened.{AreOpened};
 
 use crate::fault::FileFault;
+use crate::found_block::WrittenImage;
 use crate::lane::FileLane;
 use crate::lanes::{Shared, found_lanes, share, written_lanes};
 use disk::{BLOCK_LEN, Lanes};
 use std::alloc::{AllocError, Global};
 use std::fs::{File, Files, Metadata, OpenOptions, TryLockError};
 use std::marker::Model;
-use std::os::unix::fs::FileExt;
 use std::path::Path;
 use std::sync::Arc;
 use std::{fs, io};
@@ -194,9 +194,10 @@ fn fill<R: Files<File = File>>(
 {
     lock(&file)?;
     settle_name(rt, path)?;
-    write_image(&file, image)?;
+    let written = WrittenImage::write(&file, image)?;
     let (file, opened) = share(alloc, file)?;
-    let lanes = written_lanes(alloc, &file, &opened, image)?;
+    let blocks = (image.len() / BLOCK_LEN) as u32;
+    let lanes = written_lanes(alloc, &file, &opened, &written, blocks)?;
     Ok(FileDisk { lanes, file })
 }
 
@@ -227,25 +228,25 @@ fn blocks_of(file: &File) -> Result<u32, FileFault>
     if !found.is_file() {
         return Err(FileFault::NotAFile);
     }
-    let length = found.len();
+    match blocks_in(found.len()) {
+        Some(blocks) => Ok(blocks),
+        None => Err(FileFault::BadLength(found.len())),
+    }
+}
+
+/// How many blocks a disk of so many bytes has; `None` where no disk has so many.
+fn blocks_in(length: u64) -> Option<u32>
+    ensures some { IfSome result (λ blocks. (length ≡ 512 * blocks) × (32 ≤ blocks) × (blocks ≤ 32768)) }
+    ensures all { length % 512 ≡ 0 → 512 * 32 ≤ length → length ≤ 512 * 32768 → IsSome result }
+{
     let blocks = length / BLOCK_LEN as u64;
     if length % BLOCK_LEN as u64 != 0
         || blocks < u64::from(MIN_BLOCKS)
         || blocks > u64::from(MAX_BLOCKS)
     {
-        return Err(FileFault::BadLength(length));
+        return None;
     }
-    Ok(blocks as u32)
-}
-
-/// Writes block 0 last, once the others are settled.
-fn write_image(file: &File, image: &[u8]) -> io::Result<()>
-    requires { 512 ≤ length image.now }
-{
-    let (first, rest) = image.split_at(BLOCK_LEN);
-    file.write_all_at(rest, BLOCK_LEN as u64)?;
-    file.sync_all()?;
-    file.write_all_at(first, 0)
+    Some(blocks as u32)
 }
 
 /// Settles the name of a file that was made, by a sync of its folder.

@@ -1,13 +1,17 @@
 // What all lanes of a file share: its handle, and which of its syncs were good.
 //
-// No clause can say what a file holds, nor what an atomic does. So two things about this module are to be read, and not
-// proved: a `GoodSync` of a number is made only where the sync of that number was good, or the one by which the file was
-// opened; and the number that a write answers is that of a sync that begins after the write.
-ghost use Rattle.std.specs.Prelude.{◌≡◌, ◌≤◌, ◌*◌, IfSome};
+// No clause can say what an atomic holds, nor when a sync ran. So two things about this module are to be read, and not proved: a
+// `GoodSync` of a number is made only where the sync of that number was good, or the one by which the file was opened; and the number
+// that a write is given is that of a sync that begins after the write.
+ghost use Rattle.std.specs.Prelude.{◌≡◌, ◌≤◌, ◌⊎◌, length, false, IsTrue, IfSome, IfOk, OnOk, OnErr};
+ghost use Rattle.file_disk.specs.File.{fresh_kept, with_found, with_given};
 
+use crate::fault::FileFault;
+use crate::found_block::FoundBlock;
+use crate::kept_block::KeptBlock;
 use disk::BLOCK_LEN;
+use std::alloc::Global;
 use std::fs::File;
-use std::os::unix::fs::FileExt;
 use std::sync::Mutex;
 use std::sync::atomic::{AtomicBool, AtomicU64, Ordering};
 use std::{io, thread};
@@ -77,21 +81,85 @@ impl SharedFile {
         }
     }
 
-    /// Reads a block. After `Ok` all of it came.
-    pub(crate) fn read_block(&self, block: u32, into: &mut [u8; BLOCK_LEN]) -> io::Result<()> {
-        self.noted(self.file.read_exact_at(into, offset(block)))
+    /// Reads the place of a block.
+    fn find_block(&self, number: u32) -> io::Result<FoundBlock>
+        ensures { IfOk result (λ found. found.number ≡ number) }
+    {
+        let found = FoundBlock::read(&self.file, number);
+        if let Err(error) = &found {
+            self.note(error);
+        }
+        found
+    }
+
+    /// A block as the file has it, which was settled when it was opened.
+    pub(crate) fn open_block(
+        &self,
+        alloc: Global,
+        number: u32,
+        opened: &GoodSync,
+    ) -> Result<KeptBlock, FileFault>
+        ensures kept { IfOk result (λ block. block ≡ fresh_kept number block.bytes) }
+        ensures long { IfOk result (λ block. length block.bytes ≡ 512) }
+    {
+        let found = self.find_block(number)?;
+        Ok(KeptBlock::new(alloc, &found, opened)?)
+    }
+
+    /// Reads a block. Answers whether the file brings the bytes that the block has: then `into` has them, and the block is in no doubt.
+    pub(crate) fn read_block(&self, block: &mut KeptBlock, into: &mut [u8; BLOCK_LEN]) -> bool
+        ensures read { IsTrue result → into.new ≡ block.old.bytes }
+        ensures found { IsTrue result → block.new ≡ with_found block.old block.old.bytes }
+        ensures other { result ≡ false → block.new ≡ block.old }
+    {
+        if let Ok(found) = self.find_block(block.number())
+            && *found.bytes() == *block.bytes()
+        {
+            *into = *found.bytes();
+            block.find(&found);
+            return true;
+        }
+        false
+    }
+
+    /// Writes a block, and gives these bytes to its open writes. After an `Err` the block is in doubt.
+    pub(crate) fn write_block(
+        &self,
+        block: &mut KeptBlock,
+        from: &[u8; BLOCK_LEN],
+    ) -> io::Result<()>
+        ensures ok { OnOk result (block.new ≡ with_found (with_given block.old from.now block.new.settled_by) from.now) }
+        ensures err { OnErr result (block.new ≡ with_given block.old from.now block.new.settled_by) }
+    {
+        let written = FoundBlock::write(&self.file, block.number(), from);
+        block.give(from, self.next_sync());
+        if let Err(error) = &written {
+            self.note(error);
+        }
+        block.find(&written?);
+        Ok(())
+    }
+
+    /// Reads a block back whose write of these bytes failed. Where the file brings them the block has them from here on, and where it
+    /// brings those from before it has these; else it stays in doubt.
+    pub(crate) fn read_back(&self, block: &mut KeptBlock, from: &[u8; BLOCK_LEN])
+        ensures { (block.new ≡ block.old) ⊎ ((block.new ≡ with_found block.old block.old.bytes) ⊎ (block.new ≡ with_found block.old from.now)) }
+    {
+        if let Ok(found) = self.find_block(block.number())
+            && (*found.bytes() == *from || *found.bytes() == *block.bytes())
+        {
+            block.find(&found);
+        }
     }
 
     /// Keeps the number of an error, where it is the first.
-    fn noted(&self, answer: io::Result<()>) -> io::Result<()> {
-        if let Err(error) = &answer
-            && let Some(number) = error.raw_os_error()
+    fn note(&self, error: &io::Error) {
+        if let Some(number) = error.raw_os_error()
             && self.error.load(Ordering::SeqCst) == 0
         {
             let number = u64::try_from(number).unwrap_or(0);
             self.error.store(number, Ordering::SeqCst);
         }
-        answer
     }
 
     /// The first error that the system answered to a read, a write or a sync.
@@ -102,11 +170,9 @@ impl SharedFile {
         }
     }
 
-    /// Writes a block, and answers the number of the first sync that settles it: one that has not begun. After `Ok` all of
-    /// the block went to the system.
-    pub(crate) fn write_block(&self, block: u32, from: &[u8; BLOCK_LEN]) -> (io::Result<()>, u64) {
-        let written = self.noted(self.file.write_all_at(from, offset(block)));
-        (written, self.begun.load(Ordering::SeqCst).saturating_add(1))
+    /// The number of the first sync that has not begun.
+    fn next_sync(&self) -> u64 {
+        self.begun.load(Ordering::SeqCst).saturating_add(1)
     }
 
     /// A good sync of this number or a later one. Where there is none yet it waits for the sync that runs, without sleep, as a
@@ -170,18 +236,12 @@ impl SharedFile {
         }
         let number = begun + 1;
         self.begun.store(number, Ordering::SeqCst);
-        if self.noted(self.file.sync_data()).is_err() {
+        if let Err(error) = self.file.sync_data() {
+            self.note(&error);
             self.failed.store(true, Ordering::SeqCst);
             return None;
         }
         self.good.store(number, Ordering::SeqCst);
         Some(GoodSync { number })
     }
-}
-
-/// Where a block begins in the file.
-fn offset(block: u32) -> u64
-    ensures { result ≡ 512 * block }
-{
-    BLOCK_LEN as u64 * u64::from(block)
 }

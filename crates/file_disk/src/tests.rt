@@ -107,7 +107,8 @@ fn a_write_that_fails_is_settled(rt: HostRuntime) -> Result<(), Fail> {
     drop(FileDisk::create(&rt, rt.alloc(), "failing.disk", 32)?);
     let (file, opened) = SharedFile::new(File::open(&rt, "failing.disk")?)?;
     let file = Arc::new(rt.alloc(), file).ok().ok_or("memory")?;
-    let mut lane = FileLane::new(rt.alloc(), file, 3, &[0; 512], &opened)?;
+    let block = file.open_block(rt.alloc(), 3, &opened)?;
+    let mut lane = FileLane::new(file, block);
     let mut bytes = [1; 512];
     assert!(rt; lane.write(&[8; 512]).is_err());
     lane.read(&mut bytes)?;
@@ -145,9 +146,12 @@ fn a_failed_sync_is_for_good(rt: HostRuntime) -> Result<(), Fail> {
     let file = Arc::new(rt.alloc(), SharedFile::never_synced(device))
         .ok()
         .ok_or("memory")?;
-    let mut one = FileLane::new(rt.alloc(), Arc::try_clone(&file)?, 1, &[0; 512], &opened)?;
-    let mut two = FileLane::new(rt.alloc(), Arc::try_clone(&file)?, 2, &[0; 512], &opened)?;
-    let mut three = FileLane::new(rt.alloc(), file, 3, &[0; 512], &opened)?;
+    let block = file.open_block(rt.alloc(), 1, &opened)?;
+    let mut one = FileLane::new(Arc::try_clone(&file)?, block);
+    let block = file.open_block(rt.alloc(), 2, &opened)?;
+    let mut two = FileLane::new(Arc::try_clone(&file)?, block);
+    let block = file.open_block(rt.alloc(), 3, &opened)?;
+    let mut three = FileLane::new(file, block);
     one.write(&[0; 512])?;
     assert!(rt; one.sync().is_err());
     assert!(rt; one.sync().is_err());

@@ -1,4 +1,4 @@
-use Rattle.std.proofs.Common.{◌≡◌, ◌<◌, ◌/◌, ◌%◌, ◌≤◌, ◌∙◌, ap, refl, length, Some, None, slice_get, slice_set, arith}
+use Rattle.std.proofs.Common.{◌≡◌, ◌<◌, ◌∙◌, ap, refl, Some, None, slice_get, slice_set, arith}
 use Rattle.file_disk.specs.Opened.{IsOpened}
 use Rattle.file_disk.proofs.Places.{HasBlock, ok_gives, IsOpened-number, given-count, given-here, given-empty}
 use Rattle.file_disk.proofs.Images.{all_opened}
@@ -10,26 +10,23 @@ loop-block-preserved c =
     let n = c.loop-block.block in
     let lane = c.in_ok-lane.lane in
     let is = c.in_ok-lane.ensures.opened in
-    let blocks = length c.args.image.now / 512 in
+    let blocks = c.args.blocks in
+    let image = c.args.written.now.image.now in
     let lt : n < blocks = c.loop-block-test.true in
     let here : slice_get c.loop-block.lanes lane.number ≡ Some None = ap (λ k. slice_get c.loop-block.lanes k) (IsOpened-number n lane is) ∙ before.empty n (omega arith) lt in
     let set : c.give.new.self ≡ slice_set c.loop-block.lanes lane.number (Some lane) = ok_gives c.give.result (c.give.ensures.given.1 here) c.give.ensures.ok in
     record {
       count = given-count n blocks c.loop-block.lanes c.give.new.self lane is before.count lt set;
       here = given-here n blocks c.loop-block.lanes c.give.new.self lane is before.count lt set IsOpened is before.here;
-      bytes = given-here n blocks c.loop-block.lanes c.give.new.self lane is before.count lt set (HasBlock c.args.image.now) (lane, refl, c.in_ok-lane.ensures.bytes) before.bytes;
+      bytes = given-here n blocks c.loop-block.lanes c.give.new.self lane is before.count lt set (HasBlock image) (lane, refl, c.in_ok-lane.ensures.bytes) before.bytes;
       empty = given-empty n blocks c.loop-block.lanes c.give.new.self lane is before.count lt set before.empty;
     }
 
 pub returns : goal.returns
 returns c =
     let before = c.loop-block.invariant in
-    let blocks = length c.args.image.now / 512 in
-    let done : blocks ≤ c.loop-block.block = omega arith in
-    let count : length c.loop-block.lanes ≡ blocks = before.count in
-    let whole : length c.args.image.now % 512 ≡ 0 = c.requires.whole in
     record {
-      opened = all_opened blocks c.loop-block.lanes (λ k h. before.here k (omega arith)) count;
+      opened = all_opened c.args.blocks c.loop-block.lanes (λ k h. before.here k (omega arith)) before.count;
       image = record {
         whole = omega arith;
         each = λ k h. before.bytes k (omega arith);

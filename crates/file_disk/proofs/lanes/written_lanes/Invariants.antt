@@ -7,6 +7,6 @@ abbrev pub invariant-loop-block : goal.invariant-loop-block
 invariant-loop-block l = record {
   count : length l.lanes ≡ l.blocks;
   here : (k : ℕ) → k < l.block → IsOpened k (slice_get l.lanes k);
-  bytes : (k : ℕ) → k < l.block → HasBlock l.image k (slice_get l.lanes k);
+  bytes : (k : ℕ) → k < l.block → HasBlock l.written.image.now k (slice_get l.lanes k);
   empty : (k : ℕ) → l.block ≤ k → k < l.blocks → slice_get l.lanes k ≡ Some None;
 }
