@@ -44,6 +44,14 @@ module _ (T : Types) (state : StoreState) (after : Option ℕ) (can : CanEdit T 
   pub under_place : (n block place : ℕ) → IsPlace state fs n block place → Under T v fs block 4
   under_place n block place at = under_inodes T library_layout (library_reads T can.library) v fs (library_layout.home n).0 block at.inodes
 
+  -- an entry of a directory is written
+  pub entry_short : (block place : ℕ) → Under T v fs block 2 → length (v block) ≡ 512 → place < 16 → (bytes : List ℕ) → length bytes ≡ 32 → ShortEdit T state fs block (edit_at (32 * place) bytes [] [] after)
+  entry_short block place at long low bytes whole = data_short T can.library state can.consistent fs few block long after can.given at (32 * place) bytes (omega (arith, whole)) (omega (arith, whole, low))
+
+  -- or a part of it
+  pub part_short : (block place : ℕ) → Under T v fs block 2 → length (v block) ≡ 512 → place < 16 → (bytes : List ℕ) → 0 < length bytes → length bytes ≤ 32 → ShortEdit T state fs block (edit_at (32 * place) bytes [] [] after)
+  part_short block place at long low bytes some part = data_short T can.library state can.consistent fs few block long after can.given at (32 * place) bytes some (omega (arith, part, low))
+
   -- an inode is written
   module _ (n block place : ℕ) (at : IsPlace state fs n block place) (bytes : List ℕ) (whole : length bytes ≡ 64) where
     pub kept_short : inode_pairs bytes 0 ≡ inode_pairs (inode_at (v block) place) 0 → ShortEdit T state fs block (edit_at (64 * place) bytes [] [] after)
@@ -55,14 +63,6 @@ module _ (T : Types) (state : StoreState) (after : Option ℕ) (can : CanEdit T 
 
     pub freed_short : inode_pairs bytes 0 ≡ [] → HasNoData T v (inode_at (v block) place) → ShortEdit T state fs block (edit_at (64 * place) bytes [] (data_of_inode (inode_at (v block) place)) after)
     freed_short bare none = inode_freed_short T can.library state can.consistent fs few block at.long after can.given (under_place n block place at) place at.few bytes whole bare none
-
-  -- an entry of a directory is written
-  pub entry_short : (block place : ℕ) → Under T v fs block 2 → length (v block) ≡ 512 → place < 16 → (bytes : List ℕ) → length bytes ≡ 32 → ShortEdit T state fs block (edit_at (32 * place) bytes [] [] after)
-  entry_short block place at long low bytes whole = data_short T can.library state can.consistent fs few block long after can.given at (32 * place) bytes (omega (arith, whole)) (omega (arith, whole, low))
-
-  -- or a part of it
-  pub part_short : (block place : ℕ) → Under T v fs block 2 → length (v block) ≡ 512 → place < 16 → (bytes : List ℕ) → 0 < length bytes → length bytes ≤ 32 → ShortEdit T state fs block (edit_at (32 * place) bytes [] [] after)
-  part_short block place at long low bytes some part = data_short T can.library state can.consistent fs few block long after can.given at (32 * place) bytes some (omega (arith, part, low))
 
   pub slot_short : (entry : Slot) → IsSlot state fs entry → (bytes : List ℕ) → length bytes ≡ 32 → ShortEdit T state fs entry.block (edit_at (32 * entry.place) bytes [] [] after)
   slot_short entry at bytes whole =

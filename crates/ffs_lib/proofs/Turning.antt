@@ -54,10 +54,7 @@ filter_map-after {A} {B} f g h e (x ∷ xs) = ap (λ o. cons_option o (filter_ma
     one (Some y) = refl
 
 module _ (entry : Slot) (n : ℕ) where
-  abbrev turn : Slot × List ℕ → Slot × List ℕ
-  turn = turned_entry entry n
-
-  unmoved : (b x : ℕ) (m : List ℕ) → (b ≡ entry.block → x ≡ entry.place → ⊥) → listed_at b m x ≡ option_map turn (listed_at b m x)
+  unmoved : (b x : ℕ) (m : List ℕ) → (b ≡ entry.block → x ≡ entry.place → ⊥) → listed_at b m x ≡ option_map (turned_entry entry n) (listed_at b m x)
   unmoved b x m apart = go (half_at m (32 * x) == 0)
     where
       other : (b == entry.block) && (x == entry.place) ≡ false
@@ -67,9 +64,12 @@ module _ (entry : Slot) (n : ℕ) where
       ]
 
       go : (t : Bool) → (if t then None else Some (record { block = b; place = x; inode = half_at m (32 * x) }, name_in m (32 * x)))
-          ≡ option_map turn (if t then None else Some (record { block = b; place = x; inode = half_at m (32 * x) }, name_in m (32 * x)))
+          ≡ option_map (turned_entry entry n) (if t then None else Some (record { block = b; place = x; inode = half_at m (32 * x) }, name_in m (32 * x)))
       go true = refl
       go false = ap (λ t. Some (if t then (record { block = b; place = x; inode = n }, name_in m (32 * x)) else (record { block = b; place = x; inode = half_at m (32 * x) }, name_in m (32 * x)))) (sym other)
+
+  abbrev turn : Slot × List ℕ → Slot × List ℕ
+  turn = turned_entry entry n
 
   module _ (m : List ℕ) (long : length m ≡ 512) (few : entry.place < 16) (used : half_at m (32 * entry.place) ≢ 0) (bs : List ℕ) (two : length bs ≡ 2) (is : half_at bs 0 ≡ n) (some : n ≢ 0) where
     abbrev written : List ℕ

@@ -13,7 +13,7 @@ const CASES: usize = 31;
 const LONG: &[u8] = b"a name of twenty-nine bytes..";
 
 /// Calls and their faults. Inode 2 is the file `f`, inode 3 the directory `d`, which has an entry.
-const FAULTS: [(Action<'static>, FfsFault); CASES] = [
+static FAULTS: [(Action<'static>, FfsFault); CASES] = [
     (Action::Create(0, b"x"), FfsFault::NoEntry),
     (Action::Create(9, b"x"), FfsFault::NoEntry),
     (Action::Create(129, b"x"), FfsFault::NoEntry),

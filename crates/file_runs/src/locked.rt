@@ -21,7 +21,7 @@ const BLOCKS: u32 = 64;
 const CALLS: usize = 12;
 
 /// The calls of a thread, each with what it should answer.
-const WORK: [(Action<'static>, u16); CALLS] = [
+static WORK: [(Action<'static>, u16); CALLS] = [
     (Action::Create(1, b"a"), 2),
     (Action::Mkdir(1, b"d"), 3),
     (Action::Write(2, 0, b"first"), 0),

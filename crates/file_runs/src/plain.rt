@@ -17,7 +17,7 @@ pub const LAST_WRITTEN: u16 = 8;
 pub const BYTES: usize = 7168;
 
 /// The names that are used; what is none of them counts as no name.
-pub const NAMES: [&[u8]; 10] = [
+pub static NAMES: [&[u8]; 10] = [
     b"a",
     b"b",
     b"c",
@@ -31,7 +31,7 @@ pub const NAMES: [&[u8]; 10] = [
 ];
 
 /// What is no name.
-pub const BAD_NAMES: [&[u8]; 4] = [b"", b"a/b", b"..", b"a name of twenty-nine bytes..."];
+pub static BAD_NAMES: [&[u8]; 4] = [b"", b"a/b", b"..", b"a name of twenty-nine bytes..."];
 
 /// The mode of a file's inode, and of a directory's.
 const FILE: u16 = 1;

@@ -13,7 +13,7 @@ const GREATEST: usize = 16_777_216;
 
 /// The start of the block that spells the template of type 6, whose blocks point to two more of their kind, in bytes 0 to 3 and 8 to 11.
 /// The other bytes of the block are zero. That of type 7, whose blocks point to two of type 8, is the same but for that type.
-const TREE: [u8; 48] = [
+static TREE: [u8; 48] = [
     0x58, 0x54, 0x0a, 0x01, // 10 words, 1 word
     0x01, 0x01, 0x08, 0x00, // SET 1 8
     0x0c, 0x02, 0x00, 0x00, // LD4 2 0

@@ -17,7 +17,7 @@ pub enum Kind {
 }
 
 /// The names of the kinds, in their order.
-pub const KINDS: [&str; 9] = [
+pub static KINDS: [&str; 9] = [
     "init",
     "make_root",
     "drop_root",

@@ -24,11 +24,6 @@ pub record CouldNotSync {L : Type 0} (syncs : Reads L) (left : L) : Type 0 where
   pub fault : DeviceFault
   pub gives : syncs before (Err fault) left
 
--- a count of writes after one that made so many entries durable; it goes up to 2^32 - 1
-abbrev pub writes_after : ℕ → ℕ → ℕ
-writes_after writes zero = writes
-writes_after writes (suc more) = min (writes + 1) (2 ^ 32 - 1)
-
 -- no block may be written on some hub that was found under the lock
 pub record NothingToWrite {L : Type 0} (bytes : L → List ℕ) (leaves : L → List ℕ → Type 0) : Type 0 where
   pub found : HubValue L
@@ -46,6 +41,18 @@ pub record HasBegun {L : Type 0} (bytes : L → List ℕ) (leaves : L → List �
   pub taken : slice_get found.kernel.lanes ticket.block ≡ Some (Some ticket.lane)
   pub unsynced : ticket.unsynced ≡ false
 
+-- the block is not in flight there; or it can't be read back, or what it holds is neither what was begun nor what is durable
+abbrev pub FinishFails : {L : Type 0} → (L → List ℕ) → (L → ℕ) → Reads L → KernelValue L → TicketValue L → Refusal → TicketValue L → Type 0
+FinishFails bytes faults reads kernel ticket refusal back =
+    ((is_mine kernel ticket ≡ false) × (refusal ≡ NotMine))
+    ⊎ ((refusal ≡ Device) × CountsOne (faults ticket.lane) (faults back.lane) × ((fault : DeviceFault) × reads ticket.lane (Err fault) back.lane))
+    ⊎ (settled_of kernel.state ticket.block (bytes ticket.lane) ≡ Err refusal)
+
+-- a count of writes after one that made so many entries durable; it goes up to 2^32 - 1
+abbrev pub writes_after : ℕ → ℕ → ℕ
+writes_after writes zero = writes
+writes_after writes (suc more) = min (writes + 1) (2 ^ 32 - 1)
+
 -- on some hub that was found under the lock the block is in flight, and it is read back
 pub record Finishes {L : Type 0} (bytes : L → List ℕ) (leaves : L → List ℕ → Type 0) (reads : Reads L) (ticket : TicketValue L) (durable : ℕ) : Type 0 where
   pub found : HubValue L
@@ -56,13 +63,6 @@ pub record Finishes {L : Type 0} (bytes : L → List ℕ) (leaves : L → List �
   pub freed : ℕ
   pub store : StoreState
   pub settles : settled_of found.kernel.state ticket.block (bytes ticket.lane) ≡ Ok ((durable, freed), store)
-
--- the block is not in flight there; or it can't be read back, or what it holds is neither what was begun nor what is durable
-abbrev pub FinishFails : {L : Type 0} → (L → List ℕ) → (L → ℕ) → Reads L → KernelValue L → TicketValue L → Refusal → TicketValue L → Type 0
-FinishFails bytes faults reads kernel ticket refusal back =
-    ((is_mine kernel ticket ≡ false) × (refusal ≡ NotMine))
-    ⊎ ((refusal ≡ Device) × CountsOne (faults ticket.lane) (faults back.lane) × ((fault : DeviceFault) × reads ticket.lane (Err fault) back.lane))
-    ⊎ (settled_of kernel.state ticket.block (bytes ticket.lane) ≡ Err refusal)
 
 -- on some hub that was found under the lock the finish is refused, and gives the ticket back
 pub record FinishRefuses {L : Type 0} (bytes : L → List ℕ) (leaves : L → List ℕ → Type 0) (faults : L → ℕ) (reads : Reads L)

@@ -19,11 +19,12 @@ fn first_char(bytes: &[u8]) -> Option<(char, usize)> {
     None
 }
 
+static DIGITS: [char; 16] = [
+    '0', '1', '2', '3', '4', '5', '6', '7', '8', '9', 'a', 'b', 'c', 'd', 'e', 'f',
+];
+
 /// Adds a byte as `\x1b`.
 fn add_byte(byte: u8, shown: &mut String) -> Result<(), AllocError> {
-    const DIGITS: [char; 16] = [
-        '0', '1', '2', '3', '4', '5', '6', '7', '8', '9', 'a', 'b', 'c', 'd', 'e', 'f',
-    ];
     shown.push_str("\\x")?;
     shown.push(DIGITS[usize::from(byte / 16)])?;
     shown.push(DIGITS[usize::from(byte % 16)])

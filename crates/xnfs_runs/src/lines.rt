@@ -31,7 +31,7 @@ pub enum Word {
 }
 
 /// The words, the more often the more of them.
-const WORDS: [Word; 32] = [
+static WORDS: [Word; 32] = [
     Word::MakeFolder,
     Word::MakeFolder,
     Word::MakeFolder,

@@ -6,7 +6,7 @@ use std::alloc::{AllocError, Global};
 pub type Path = Vec<u8>;
 
 /// The names that paths are made of: those that no file can have stand behind the good ones, and those of the sources last.
-const NAMES: [&str; 22] = [
+static NAMES: [&str; 22] = [
     "a",
     "b",
     "c",

@@ -6,7 +6,7 @@ use std::fs::{File, Files};
 use std::{fs, io};
 
 /// How many bytes each of them has.
-const LENGTHS: [usize; 8] = [0, 1, 100, 512, 513, 3000, 6145, 45000];
+static LENGTHS: [usize; 8] = [0, 1, 100, 512, 513, 3000, 6145, 45000];
 
 /// How many there are.
 pub const SOURCES: u16 = 8;

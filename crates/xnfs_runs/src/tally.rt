@@ -5,13 +5,13 @@ use crate::tree::Why;
 use std::fmt;
 
 /// The words, as they are printed, in the order of `Word`.
-const KINDS: [&str; 16] = [
+static KINDS: [&str; 16] = [
     "mkdir", "mkdir -p", "rm", "rm -r", "rmdir", "mv", "cp", "put", "put -", "cat", "ls", "ls -l",
     "tree", "check", "sync", "# ..",
 ];
 
 /// Why lines could not be done, as it is printed, in the order of `Why`.
-const FAULTS: [&str; 10] = [
+static FAULTS: [&str; 10] = [
     "missing",
     "there",
     "no folder",

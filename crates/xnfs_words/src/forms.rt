@@ -38,7 +38,7 @@ const TO: Part = Part::Wanted {
 };
 
 /// The commands of a line and of a shell.
-pub const WORD_FORMS: [Form; 14] = [
+static WORD_FORMS: [Form; 14] = [
     Form {
         name: "ls",
         about: "list the names in a folder",
@@ -173,7 +173,7 @@ passed over. A line that fails is told, and the next one is read. The status is 
 Example: printf 'mkdir /a\\nput notes.txt /a\\n' | xnfs disk.img shell";
 
 /// The command that only a line has.
-pub const LINE_FORMS: [Form; 1] = [Form {
+static LINE_FORMS: [Form; 1] = [Form {
     name: "shell",
     about: "read these commands from standard input, a line each",
     after: Some(SHELL_HELP),
@@ -185,9 +185,29 @@ pub const LINE_FORMS: [Form; 1] = [Form {
 }];
 
 /// The command that only a shell has.
-pub const SHELL_FORMS: [Form; 1] = [Form {
+static SHELL_FORMS: [Form; 1] = [Form {
     name: "sync",
     about: "have all lines so far on the disk",
     after: None,
     parts: &[],
 }];
+
+/// Where a command is read.
+#[derive(Clone, Copy)]
+pub enum Place {
+    Line,
+    Shell,
+}
+
+/// The commands of a line and of a shell.
+pub fn word_forms() -> &'static [Form] {
+    &WORD_FORMS
+}
+
+/// The commands that one of the two has alone.
+pub fn own_forms(place: Place) -> &'static [Form] {
+    match place {
+        Place::Line => &LINE_FORMS,
+        Place::Shell => &SHELL_FORMS,
+    }
+}

@@ -1,8 +1,11 @@
 // The readers of command lines.
 
-use crate::forms::{Form, LINE_FORMS, Part, SHELL_FORMS, WORD_FORMS};
+use crate::forms::{Form, Part, Place, own_forms, word_forms};
 use clap::{Arg, ArgAction, Command, value_parser};
 use std::alloc::{AllocError, Global};
+
+/// What the program is for.
+const ABOUT: &str = "Files in a disk image: `xnfs format IMAGE BLOCKS`, or `xnfs IMAGE COMMAND ..`";
 
 /// What is told of the whole.
 const EXAMPLES: &str = "Examples:
@@ -38,10 +41,15 @@ fn no_sync<'a>(alloc: Global) -> Arg<'a> {
     )
 }
 
+/// A word that has to be there.
+fn wanted<'a>(alloc: Global, name: &'static str, help: &'static str) -> Arg<'a> {
+    Arg::new(alloc, name).required(true).help(help)
+}
+
 /// A part of a command's line.
 fn part<'a>(alloc: Global, part: &Part) -> Arg<'a> {
     match *part {
-        Part::Wanted { name, help } => Arg::new(alloc, name).required(true).help(help),
+        Part::Wanted { name, help } => wanted(alloc, name, help),
         Part::Folder => Arg::new(alloc, "PATH")
             .default_value("/")
             .help("a path in the volume"),
@@ -82,55 +90,65 @@ fn add<'a>(
     Ok(())
 }
 
-/// The commands that a line and a shell have, and then those of these forms.
-fn commands<'a>(alloc: Global, forms: &[Form]) -> Result<Vec<Command<'a>>, AllocError> {
+/// The commands that a line or a shell has.
+fn commands<'a>(alloc: Global, place: Place) -> Result<Vec<Command<'a>>, AllocError> {
     let mut commands = Vec::new(alloc);
-    add(alloc, &mut commands, &WORD_FORMS)?;
-    add(alloc, &mut commands, forms)?;
+    add(alloc, &mut commands, word_forms())?;
+    add(alloc, &mut commands, own_forms(place))?;
     Ok(commands)
+}
+
+/// How many blocks a disk is to have.
+fn blocks<'a>(alloc: Global) -> Arg<'a> {
+    wanted(alloc, "BLOCKS", "how many blocks of 512 bytes, 32 to 32768").value_parser(value_parser!(
+        u32
+    ).range(32..=32768))
+}
+
+/// A reader of words that stand behind the program's name.
+fn reader<'a>(alloc: Global, name: &'static str, about: &'static str) -> Command<'a> {
+    Command::new(alloc, name).about(about).no_binary_name(true)
 }
 
 /// The reader of the words behind `format`.
 pub fn format_reader<'a>(alloc: Global) -> Result<Command<'a>, AllocError> {
-    let blocks = Arg::new(alloc, "BLOCKS")
-        .required(true)
-        .value_parser(value_parser!(u32).range(32..=32768))
-        .help("how many blocks of 512 bytes, 32 to 32768");
-    let image = Arg::new(alloc, "IMAGE")
-        .required(true)
-        .help("the file to make");
-    Command::new(alloc, "xnfs format")
-        .about("make a file that is a disk with an empty volume")
-        .after_help("Example: xnfs format disk.img 1024")
-        .no_binary_name(true)
+    reader(
+        alloc,
+        "xnfs format",
+        "make a file that is a disk with an empty volume",
+    )
+    .after_help("Example: xnfs format disk.img 1024")
+    .arg(wanted(alloc, "IMAGE", "the file to make"))?
+    .arg(blocks(alloc))?
+    .arg(file_system(alloc))
+}
+
+/// The reader of any other line, but for its commands.
+fn options_reader<'a>(alloc: Global) -> Result<Command<'a>, AllocError> {
+    let image = wanted(
+        alloc,
+        "IMAGE",
+        "a file that `xnfs format` made, changed in place",
+    );
+    reader(alloc, "xnfs", ABOUT)
+        .after_help(EXAMPLES)
+        .version("0.1")
         .arg(image)?
-        .arg(blocks)?
-        .arg(file_system(alloc))
+        .arg(file_system(alloc))?
+        .arg(stop(alloc))?
+        .arg(no_sync(alloc))
 }
 
 /// The reader of any other line.
 pub fn disk_reader<'a>(alloc: Global) -> Result<Command<'a>, AllocError> {
-    let image = Arg::new(alloc, "IMAGE")
-        .required(true)
-        .help("a file that `xnfs format` made, changed in place");
-    Command::new(alloc, "xnfs")
-        .about("Files in a disk image: `xnfs format IMAGE BLOCKS`, or `xnfs IMAGE COMMAND ..`")
-        .after_help(EXAMPLES)
-        .version("0.1")
-        .no_binary_name(true)
+    options_reader(alloc)?
         .subcommand_required(true)
-        .arg(image)?
-        .arg(file_system(alloc))?
-        .arg(stop(alloc))?
-        .arg(no_sync(alloc))?
-        .subcommands(commands(alloc, &LINE_FORMS)?)
+        .subcommands(commands(alloc, Place::Line)?)
 }
 
 /// The reader of the lines of a shell.
 pub fn shell_reader<'a>(alloc: Global) -> Result<Command<'a>, AllocError> {
-    Command::new(alloc, "xnfs shell")
-        .about("The commands of a shell, a line each")
-        .no_binary_name(true)
+    reader(alloc, "xnfs shell", "The commands of a shell, a line each")
         .subcommand_required(true)
-        .subcommands(commands(alloc, &SHELL_FORMS)?)
+        .subcommands(commands(alloc, Place::Shell)?)
 }

@@ -1,11 +1,16 @@
 // Commands that there aren't.
 
-use crate::forms::{Form, LINE_FORMS, SHELL_FORMS, WORD_FORMS};
+use crate::forms::{Form, Place, own_forms, word_forms};
 use std::alloc::{AllocError, Global};
 
 /// Whether a command has one of these forms.
 fn has(forms: &[Form], word: &str) -> bool {
     forms.iter().any(|form| form.name == word)
+}
+
+/// Whether there is such a command.
+fn is_known(place: Place, word: &str) -> bool {
+    word == "help" || has(word_forms(), word) || has(own_forms(place), word)
 }
 
 /// Adds the names of commands of these forms, with commas between them.
@@ -22,12 +27,11 @@ fn add(told: &mut String, forms: &[Form]) -> Result<(), AllocError> {
 /// The names of the commands of a line, or of a shell, as they are told.
 pub fn commands_told(alloc: Global, is_shell: bool) -> Result<String, AllocError> {
     let mut told = String::new(alloc);
-    add(&mut told, &WORD_FORMS)?;
-    if is_shell {
-        add(&mut told, &SHELL_FORMS)?;
-    } else {
-        add(&mut told, &LINE_FORMS)?;
-    }
+    add(&mut told, word_forms())?;
+    add(
+        &mut told,
+        own_forms(if is_shell { Place::Shell } else { Place::Line }),
+    )?;
     Ok(told)
 }
 
@@ -50,8 +54,11 @@ pub fn unknown_command(words: &[String]) -> Option<(&str, &str)> {
         } else if image.is_none() {
             image = Some(word);
         } else {
-            let is_known = has(&WORD_FORMS, word) || has(&LINE_FORMS, word) || word == "help";
-            return if is_known { None } else { Some((image?, word)) };
+            return if is_known(Place::Line, word) {
+                None
+            } else {
+                Some((image?, word))
+            };
         }
     }
     None
@@ -60,8 +67,7 @@ pub fn unknown_command(words: &[String]) -> Option<(&str, &str)> {
 /// Of a shell's line whose words can't be read: the command, where there is no such command.
 pub fn unknown_shell_command(words: &[String]) -> Option<&str> {
     let word = words.first()?.as_str();
-    let is_known = has(&WORD_FORMS, word) || has(&SHELL_FORMS, word) || word == "help";
-    if is_known || word.starts_with('-') {
+    if word.starts_with('-') || is_known(Place::Shell, word) {
         None
     } else {
         Some(word)

@@ -156,7 +156,7 @@ pub fn played(
 ) -> Option<Kernel<CountingLane>> {
     let Scene { image, how } = scene;
     let mut kernel = mounted(rt, alloc, image, block, failure, tally)?;
-    for (number, step) in STEPS {
+    for &(number, step) in &STEPS {
         if !take(&mut kernel, alloc, how, tally, Fs::new(number)?, step) {
             return None;
         }

@@ -21,7 +21,7 @@ pub enum Step {
 }
 
 /// All steps, each with its file system. The installed types are in blocks 1 and 3.
-pub const STEPS: [(u8, Step); 20] = [
+pub static STEPS: [(u8, Step); 20] = [
     // Block 2, which owns block 3, is rooted, and so is block 4.
     (0, Step::Install(2)),
     (0, Step::Init(3, 0)),
@@ -48,7 +48,7 @@ pub const STEPS: [(u8, Step); 20] = [
 ];
 
 /// A template's bytes: its blocks own at most one block, of the type that stands behind `SET 2`, which their first four bytes name.
-const CHAIN: [u8; 28] = [
+static CHAIN: [u8; 28] = [
     0x58, 0x54, 0x05, 0x01, 0x0c, 0x01, 0x00, 0x00, 0x0e, 0x00, 0x01, 0x00, 0x01, 0x02, 0x03, 0x00,
     0x0d, 0x01, 0x02, 0x00, 0x11, 0x00, 0x00, 0x00, 0x01, 0x00, 0x04, 0x00,
 ];
