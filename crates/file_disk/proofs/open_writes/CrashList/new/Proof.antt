@@ -1,4 +1,4 @@
--- `new` makes a value of no bytes, at the empty list.
+-- `new` makes a value of no bytes, at the empty list. The check takes `new_spec` from here.
 use mathlib.Core.Path.{refl}
 use mathlib.Core.List.{[], ◌∷◌}
 use seplogic.Ra.Ura.{Ura}
