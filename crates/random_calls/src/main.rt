@@ -28,7 +28,7 @@ use run::Run;
 use std::alloc::{AllocError, Global};
 use std::io;
 use std::thread::Threads;
-use tally::{KINDS, Met, Tally};
+use tally::{KINDS, Met, REPORT, Tally};
 use xn_kernel::Kernel;
 
 /// How many calls are made, beside the finishes before drains.
@@ -85,41 +85,6 @@ fn make_calls(rt: &(impl Threads + Sync), alloc: Global, run: &mut Run) -> Resul
     Ok(())
 }
 
-/// Prints what the device did.
-fn print_device(rt: &impl Print, tally: &Tally) -> io::Result<()> {
-    let (synced, unsynced) = (tally.of(Met::Synced), tally.of(Met::Unsynced));
-    let early = tally.of(Met::TooEarly);
-    println!(rt; "sync {synced} failed {unsynced}, {early} finishes refused with NotSynced")?;
-    let (crashes, unmounted) = (tally.of(Met::Crashes), tally.of(Met::Unmounted));
-    println!(rt; "{crashes} crashes, {unmounted} mounts failed by a sync")?;
-    let (kept, lost, unread) = (
-        tally.of(Met::Kept),
-        tally.of(Met::Lost),
-        tally.of(Met::Unread),
-    );
-    println!(rt; "open writes: {kept} kept, {unread} of them never read, {lost} lost")?;
-    let (reached, left) = (tally.of(Met::Reached), tally.of(Met::Left));
-    println!(rt; "the mounts reached {reached} blocks, and left {left} free")
-}
-
-/// Prints what was met of types.
-fn print_types(rt: &impl Print, tally: &Tally) -> io::Result<()> {
-    let (no_slot, too_many) = (tally.of(Met::NoSlot), tally.of(Met::TooMany));
-    let (no_space, bad) = (tally.of(Met::NoSpace), tally.of(Met::Bad));
-    println!(rt;
-        "install refused: NoSlot {no_slot} TooManyPending {too_many} NoSpace {no_space} BadTemplate {bad}"
-    )?;
-    let (untyped, awaiting) = (tally.of(Met::Untyped), tally.of(Met::Awaiting));
-    println!(rt;
-        "{untyped} calls refused with BadType, {awaiting} times a block with an entry that waits for a type"
-    )?;
-    let (disks, taken) = (tally.of(Met::Disks), tally.of(Met::TypesTaken));
-    let kept = tally.of(Met::TypesKept);
-    println!(rt;
-        "{disks} disks formatted; the crashes took {taken} types, and kept {kept} that were pending"
-    )
-}
-
 /// Prints the counts of calls.
 fn print_calls(rt: &impl Print, tally: &Tally) -> io::Result<()> {
     for ((kind, made), accepted) in KINDS.iter().zip(&tally.made).zip(&tally.accepted) {
@@ -132,23 +97,10 @@ fn print_calls(rt: &impl Print, tally: &Tally) -> io::Result<()> {
 /// Prints the counts.
 fn print_tally(rt: &impl Print, tally: &Tally) -> io::Result<()> {
     print_calls(rt, tally)?;
-    let (most, tainted) = (tally.of(Met::MostPending), tally.of(Met::Tainted));
-    println!(rt;
-        "at most {most} entries pending, {tainted} times a block with an entry that isn't safe"
-    )?;
-    let (cycles, owners) = (tally.of(Met::Cycles), tally.of(Met::MostOwners));
-    let (trees, rooted) = (tally.of(Met::Trees), tally.of(Met::Rooted));
-    println!(rt; "{cycles} edits refused with Cycle, at most {owners} owners above a block")?;
-    println!(rt;
-        "of the blocks that own others {trees} were attached to a block, and {rooted} became roots"
-    )?;
-    let (durable, freed) = (tally.of(Met::Durable), tally.of(Met::Freed));
-    println!(rt; "writes made {durable} entries durable, and {freed} blocks free")?;
-    print_types(rt, tally)?;
-    print_device(rt, tally)?;
-    let (compared, wrong) = (tally.of(Met::Compared), tally.of(Met::Wrong));
-    let hash = tally.hash;
-    println!(rt; "compared {compared} answers, {wrong} wrong, hash {hash:#x}")
+    for &(text, met) in &REPORT {
+        print!(rt; "{text}{}", tally.of(met))?;
+    }
+    println!(rt; " wrong, hash {:#x}", tally.hash)
 }
 
 fn main(rt: HostRuntime) -> io::Result<()> {

@@ -81,6 +81,48 @@ pub enum Met {
     Wrong,
 }
 
+/// What was met as it is printed: each count with the text before it.
+pub static REPORT: [(&str, Met); 29] = [
+    ("at most ", Met::MostPending),
+    (" entries pending, ", Met::Tainted),
+    (
+        " times a block with an entry that isn't safe\n",
+        Met::Cycles,
+    ),
+    (" edits refused with Cycle, at most ", Met::MostOwners),
+    (
+        " owners above a block\nof the blocks that own others ",
+        Met::Trees,
+    ),
+    (" were attached to a block, and ", Met::Rooted),
+    (" became roots\nwrites made ", Met::Durable),
+    (" entries durable, and ", Met::Freed),
+    (" blocks free\ninstall refused: NoSlot ", Met::NoSlot),
+    (" TooManyPending ", Met::TooMany),
+    (" NoSpace ", Met::NoSpace),
+    (" BadTemplate ", Met::Bad),
+    ("\n", Met::Untyped),
+    (" calls refused with BadType, ", Met::Awaiting),
+    (
+        " times a block with an entry that waits for a type\n",
+        Met::Disks,
+    ),
+    (" disks formatted; the crashes took ", Met::TypesTaken),
+    (" types, and kept ", Met::TypesKept),
+    (" that were pending\nsync ", Met::Synced),
+    (" failed ", Met::Unsynced),
+    (", ", Met::TooEarly),
+    (" finishes refused with NotSynced\n", Met::Crashes),
+    (" crashes, ", Met::Unmounted),
+    (" mounts failed by a sync\nopen writes: ", Met::Kept),
+    (" kept, ", Met::Unread),
+    (" of them never read, ", Met::Lost),
+    (" lost\nthe mounts reached ", Met::Reached),
+    (" blocks, and left ", Met::Left),
+    (" free\ncompared ", Met::Compared),
+    (" answers, ", Met::Wrong),
+];
+
 /// Of each kind how many calls were made, and how many of them were accepted; what was met; a hash of all answers.
 #[derive(Drop)]
 pub struct Tally {
