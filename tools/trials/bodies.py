@@ -137,6 +137,18 @@ BODIES = {
         "        .create(true)\n        .truncate(true)\n",
         ["what_is_no_disk_is_refused_and_kept"],
     ),
+    "made_under_no_name": Body(
+        OPENING, [],
+        "FileDisk::create_with(rt, alloc, path, &zeros)",
+        'FileDisk::create_with(rt, alloc, "", &zeros)',
+        ["a_file_has_what_is_written_to_its_lanes"],
+    ),
+    "no_error_of_the_system_is_told": Body(
+        OPENING, ["xnfs"],
+        "        self.file.first_error()\n",
+        "        let _ = self.file.first_error();\n        None\n",
+        ["the_systems_reason_is_told"],
+    ),
     "new_disk_not_locked": Body(
         OPENING, ["xnfs"],
         "Err(TryLockError::WouldBlock) => Err(FileFault::InUse),",

@@ -25,9 +25,9 @@ def traced(calls, *words, inject=(), **more):
     return done, (read(out) or b"").decode(errors="replace").splitlines()
 
 
-def failing(call, path, when, *words, **more):
+def failing(call, path, when, *words, error="EIO", **more):
     """Runs `xnfs` with calls of this kind failing at a path; answers how it ended, and whether it met one."""
-    inject = ["-e", f"trace={call}", "-e", f"inject={call}:error=EIO:when={when}"]
+    inject = ["-e", f"trace={call}", "-e", f"inject={call}:error={error}:when={when}"]
     done = run("strace", "-f", "-qq", "-o", "failed", "-P", os.path.abspath(path), *inject, XNFS, *words, **more)
     return done, b"(INJECTED)" in read("failed")
 
@@ -142,3 +142,11 @@ def no_sync_of_a_disk_is_made_up():
             want(number > len(MANY_SYNCS.splitlines()), f"{number - 1} syncs")
             return
     want(False, "a shell syncs without end")
+
+
+@scene
+def the_systems_reason_is_told():
+    for call, error, told in (("fdatasync", "EIO", b"Input/output error"), ("pwrite64", "ENOSPC", b"No space left on device")):
+        fresh(f"{call}.img")
+        done, met = failing(call, f"{call}.img", "1+", f"{call}.img", "mkdir", "/d", error=error)
+        want(met and done.returncode == 1 and told in done.stderr, f"{call} fails with {error}: status {done.returncode} {done.stderr[:80]!r}")
