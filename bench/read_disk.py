@@ -274,11 +274,9 @@ def damage(source, image):
 def compare_check(program, count):
     """Compares what is told of pseudo-random images with what the program tells, and prints how many are sound and how many differ."""
     source, sound, differences = random.Random(SEED), 0, 0
-    with open("probe/e.img", "rb") as file:
-        library = file.read()
     with tempfile.TemporaryDirectory() as folder:
         for number in range(count):
-            image = damage(source, make_image(source) if number % 3 else bytearray(library))
+            image = damage(source, make_image(source))
             with open(os.path.join(folder, "disk"), "wb") as file:
                 file.write(image)
             told, here = start(program, "check", os.path.join(folder, "disk"))[0].decode().rstrip("\n"), tell_check(bytes(image))
