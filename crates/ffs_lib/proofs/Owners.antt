@@ -1,8 +1,8 @@
 -- Where the inode in use with a number stands, and that no block is in two of them.
 use Rattle.std.proofs.Common.{◌≡◌, ◌≢◌, ℕ, ◌+◌, ◌-◌, ◌*◌, ◌/◌, ◌%◌, ◌<◌, ◌≤◌, ◌⊎◌, Bool, true, false, List, Ok, Err, refl, sym, ◌∙◌, ap, inl, inr, arith, subst, Contains, Result, ◌==◌, ◌||◌, nat_lt, if◌then◌else◌, eqb-true, lt-ltb, le-ltb}
-use Rattle.ffs_lib.proofs.Common.{FfsFault, IsConsistent, IsInodes, IsLibrary, IsRoot, Life, NoEntry, StoreState, Types, Under, and_then, cases_lt, direct_in}
+use Rattle.ffs_lib.proofs.Common.{FfsFault, IsConsistent, IsInodes, IsLibrary, IsRoot, NoEntry, StoreState, Types, Under, and_then, cases_lt, direct_in}
 use Rattle.ffs_lib.proofs.Common.{direct_word, eqb-false, file_block, inode_at, inode_block_in, inode_in, inode_mode, latest, library_layout, pointer_word, root}
-use Rattle.ffs_lib.proofs.Common.{root_in, same_Some, slot, step, unless_unused, unless_zero, word_at}
+use Rattle.ffs_lib.proofs.Common.{root_in, slot, step, unless_unused, unless_zero, word_at}
 use Rattle.xn_model.specs.declared.status.Status.TheVariants.{Owned}
 use Rattle.xn_model.proofs.ForCallers.{of_life}
 use Rattle.ffs_model.proofs.ForCallers.{owner_of, blocks_read, data_once, data_owned, direct_once, indirect_once, indirect_owned, latest_reached, library_reads, one_type, under_inodes, word_part}

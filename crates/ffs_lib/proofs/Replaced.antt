@@ -45,14 +45,18 @@ at_one_place state fs from to a b e =
     let p = and_parts (from.block == to.block) (from.place == to.place) e in
     same_place state fs from to a b (eqb-true from.block to.block p.0) (eqb-true from.place to.place p.1)
 
-pub itself_done : (state : StoreState) (fs d other : ℕ) (from to : Slot) → IsSlot state fs from → IsSlot state fs to → (from.block == to.block) && (from.place == to.place) ≡ true → Replaced state state fs d from other to (Ok tt)
-itself_done state fs d other from to a b e =
+pub one_slot : (state : StoreState) (fs : ℕ) (from to : Slot) → IsSlot state fs from → IsSlot state fs to → (from.block == to.block) && (from.place == to.place) ≡ true → from ≡ to
+one_slot state fs from to a b e =
     let p = and_parts (from.block == to.block) (from.place == to.place) e in
     let block = eqb-true from.block to.block p.0 in
     let place = eqb-true from.place to.place p.1 in
     let inode = same_place state fs from to a b block place in
-    let one : from ≡ to = λ i. record { block = block i; place = place i; inode = inode i } in
-    record { itself = λ z. refl; same = λ ne. absurd (ne one); another = λ ne. absurd (ne inode) }
+    λ i. record { block = block i; place = place i; inode = inode i }
+
+pub itself_done : (state : StoreState) (fs d other : ℕ) (from to : Slot) → IsSlot state fs from → IsSlot state fs to → (from.block == to.block) && (from.place == to.place) ≡ true → Replaced state state fs d from other to (Ok tt)
+itself_done state fs d other from to a b e =
+    let one = one_slot state fs from to a b e in
+    record { itself = λ z. refl; same = λ ne. absurd (ne one); another = λ ne. absurd (ne (ap (λ (s : Slot). s.inode) one)) }
 
 pub same_done : (old new : StoreState) (fs d other : ℕ) (from to : Slot) (result : Result (Unit {0}) FfsFault) → from ≢ to → from.inode ≡ to.inode →
     Unnames (latest old.lives) (latest new.lives) fs d from.inode × OnErr result (KeptOrEmptied (latest old.lives) (latest new.lives) fs from.inode) → Replaced old new fs d from other to result

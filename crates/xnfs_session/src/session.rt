@@ -494,6 +494,10 @@ impl<S: FlushStore + Drop> Session<S> {
             Ok (from, to) ≡ replace_in (newest_block (S.state_of self.old.store)) self.old.fs directory name.now other other_name.now →
             from.inode ≢ to.inode → InOrder (S.types_of self.old.store) self.old.fs (replaced_parts self.old.fs from to (S.state_of self.old.store).next)
             (S.state_of self.old.store) (S.state_of self.new.store) result }
+        ensures one_file { let old = newest_block (S.state_of self.old.store) in let fs = self.old.fs in
+            (from to : Slot) → Ok (from, to) ≡ replace_in old fs directory name.now other other_name.now → from ≢ to → from.inode ≡ to.inode →
+            Orders (S.types_of self.old.store) fs (removed_edits old fs from None (S.state_of self.old.store).next)
+            (S.state_of self.old.store) (S.state_of self.new.store) result }
     {
         self.volume
             .replace(alloc, &mut self.store, directory, name, other, other_name)

@@ -6,7 +6,7 @@ ghost use Rattle.ffs_model.specs.Standing.{StayNamed};
 ghost use Rattle.ffs_lookup.specs.Newest.{first_named, mapped, named_in};
 ghost use Rattle.ffs_lookup.specs.Places.{IsDirectory, IsSlot};
 ghost use Rattle.ffs_lookup.specs.declared.places.Slot.{Slot};
-ghost use Rattle.ffs_lib.specs.Orders.{InOrder, Numbered, Orders, replaced_parts, turned_edits};
+ghost use Rattle.ffs_lib.specs.Orders.{InOrder, Numbered, Orders, removed_edits, replaced_parts, turned_edits};
 ghost use Rattle.ffs_lib.specs.Replacing.{NamesStand, Replaced, ReplacedInodes, Turned, directories_in, files_in, pair_of, replace_in};
 ghost use Rattle.ffs_lookup.specs.Files.{replaced};
 ghost use Rattle.ffs_lookup.specs.FileValues.{files_of};
@@ -130,6 +130,9 @@ impl Volume {
             Ok (from, to) ≡ replace_in (newest_block (S.state_of store.old)) self.now.fs.number directory name.now other other_name.now →
             from.inode ≢ to.inode → InOrder (S.types_of store.old) self.now.fs.number (replaced_parts self.now.fs.number from to (S.state_of store.old).next)
             (S.state_of store.old) (S.state_of store.new) result }
+        ensures one_file { let old = newest_block (S.state_of store.old) in let fs = self.now.fs.number in
+            (from to : Slot) → Ok (from, to) ≡ replace_in old fs directory name.now other other_name.now → from ≢ to → from.inode ≡ to.inode →
+            Orders (S.types_of store.old) fs (removed_edits old fs from None (S.state_of store.old).next) (S.state_of store.old) (S.state_of store.new) result }
     {
         let (from, to) = look_up_replace(store, self.fs, directory, name, other, other_name)?;
         if is_same_place(from, to) {

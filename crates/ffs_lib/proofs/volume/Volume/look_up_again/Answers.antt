@@ -1,5 +1,5 @@
-use Rattle.std.proofs.Common.{Bool, Err, Ok, ap, sym, true, false, ◌∙◌, ◌≡◌, if◌then◌else◌}
-use Rattle.ffs_lib.proofs.Common.{Exists, FfsFault, Slot, err_from_is_err_and, latest}
+use Rattle.std.proofs.Common.{Bool, Err, Ok, ap, sym, ◌∙◌, if◌then◌else◌}
+use Rattle.ffs_lib.proofs.Common.{Exists, err_from_is_err_and, latest}
 use Rattle.ffs_lib.proofs.Refusals.{unname_is, unname_nothing, unname_one}
 use Rattle.ffs_lib.proofs.volume.Volume.look_up_again.Goals as goal
 

@@ -1,13 +1,13 @@
-use Rattle.std.proofs.Common.{◌≡◌, ◌∙◌, Ok, refl, rules, subst, sym, true, ◌==◌}
+use Rattle.std.proofs.Common.{◌≡◌, ◌∙◌, None, Ok, refl, rules, subst, sym, true, ◌==◌}
 use Rattle.ffs_lib.proofs.Common.{Slot, files_of, latest, replaced}
 use Rattle.ffs_lookup.proofs.ForCallers.{same_ok}
-use Rattle.ffs_lib.specs.Orders.{InOrder, replaced_parts}
+use Rattle.ffs_lib.specs.Orders.{InOrder, Orders, removed_edits, replaced_parts}
 use Rattle.ffs_lib.specs.Replacing.{NamesStand, Replaced, replace_in}
 use Rattle.ffs_lib.specs.Stages.{replaced_stages}
 use Rattle.ffs_lib.specs.Volumes.{edits_of}
 use Rattle.ffs_lib.proofs.Tests.{never}
 use Rattle.ffs_lib.proofs.Laws.{staged}
-use Rattle.ffs_lib.proofs.Replaced.{another_done, at_one_place, itself_done, other_place, same_done}
+use Rattle.ffs_lib.proofs.Replaced.{another_done, at_one_place, itself_done, one_slot, other_place, same_done}
 use Rattle.ffs_lib.proofs.Replacing.{can_replace}
 use Rattle.ffs_lib.proofs.Staged.{does_fault, unnames}
 use Rattle.ffs_lib.proofs.StagedTurns.{does_by, finds_first, same_does}
@@ -33,6 +33,7 @@ returns-in_err-from g c =
       keeps = search rules;
       stands = λ from to is apart. absurd (never (from, to) _ (is ∙ sym (c.in_err-from.ensures.exact c.requires.library)));
       order = λ from to is apart. absurd (never (from, to) _ (is ∙ sym (c.in_err-from.ensures.exact c.requires.library)));
+      one_file = λ from to is apart one. absurd (never (from, to) _ (is ∙ sym (c.in_err-from.ensures.exact c.requires.library)));
     }
 
 pub returns-then-is_same_place : goal.returns-then-is_same_place
@@ -56,6 +57,9 @@ returns-then-is_same_place g c =
       order = λ from to is apart.
           let pair : (c.in_ok-from.from, c.in_ok-from.to) ≡ (from, to) = same_ok (c.in_ok-from.from, c.in_ok-from.to) (from, to) (c.in_ok-from.ensures.exact c.requires.library ∙ sym is) in
           absurd (apart (subst (λ (p : Slot × Slot). p.0.inode ≡ p.1.inode) pair (at_one_place old c.args.self.now.fs.number c.in_ok-from.from c.in_ok-from.to c.in_ok-from.ensures.first c.in_ok-from.ensures.second (sym c.if-is_same_place.ensures))));
+      one_file = λ from to is apart one.
+          let pair : (c.in_ok-from.from, c.in_ok-from.to) ≡ (from, to) = same_ok (c.in_ok-from.from, c.in_ok-from.to) (from, to) (c.in_ok-from.ensures.exact c.requires.library ∙ sym is) in
+          absurd (apart (subst (λ (p : Slot × Slot). p.0 ≡ p.1) pair (one_slot old c.args.self.now.fs.number c.in_ok-from.from c.in_ok-from.to c.in_ok-from.ensures.first c.in_ok-from.ensures.second (sym c.if-is_same_place.ensures))));
     }
 
 pub returns-then-from-to : goal.returns-then-from-to
@@ -85,6 +89,11 @@ returns-then-from-to g c =
       order = λ from to is apart.
           let pair : (c.in_ok-from.from, c.in_ok-from.to) ≡ (from, to) = same_ok (c.in_ok-from.from, c.in_ok-from.to) (from, to) (c.in_ok-from.ensures.exact c.requires.library ∙ sym is) in
           absurd (apart (subst (λ (p : Slot × Slot). p.0.inode ≡ p.1.inode) pair c.if-from-to.true));
+      one_file = λ first second is apart one.
+          let pair : (c.in_ok-from.from, c.in_ok-from.to) ≡ (first, second) = same_ok (c.in_ok-from.from, c.in_ok-from.to) (first, second) (exact ∙ sym is) in
+          let T = g.S.Store.types_of c.args.store.now in
+          subst (λ (p : Slot × Slot). Orders T fs.number (removed_edits (latest old.lives) fs.number p.0 None old.next) old (g.S.Store.state_of c.remove.new.store) c.remove.result) pair
+          (c.remove.ensures.order _ (edits_of c.args.self.now.added) refl (staged c.requires fs.few) refl);
     }
 
 pub returns : goal.returns
@@ -108,4 +117,7 @@ returns g c =
           let fs = c.args.self.now.fs.number in
           let pair : (c.in_ok-from.from, c.in_ok-from.to) ≡ (from, to) = same_ok (c.in_ok-from.from, c.in_ok-from.to) (from, to) (c.in_ok-from.ensures.exact c.requires.library ∙ sym is) in
           subst (λ (p : Slot × Slot). InOrder (g.S.Store.types_of c.args.store.now) fs (replaced_parts fs p.0 p.1 old.next) old (g.S.Store.state_of c.name_over.new.store) c.name_over.result) pair c.name_over.ensures.leaves.4;
+      one_file = λ from to is apart one.
+          let pair : (c.in_ok-from.from, c.in_ok-from.to) ≡ (from, to) = same_ok (c.in_ok-from.from, c.in_ok-from.to) (from, to) (c.in_ok-from.ensures.exact c.requires.library ∙ sym is) in
+          absurd (c.if-from-to.false (subst (λ (p : Slot × Slot). p.0.inode ≡ p.1.inode) (sym pair) one));
     }

@@ -1,5 +1,5 @@
-use Rattle.std.proofs.Common.{◌≡◌, Ok, refl, rules, ◌∙◌, sym}
-use Rattle.ffs_lib.proofs.Common.{FfsFault, files_of, latest}
+use Rattle.std.proofs.Common.{Ok, refl, rules, ◌∙◌, sym}
+use Rattle.ffs_lib.proofs.Common.{files_of, latest}
 use Rattle.ffs_lookup.specs.Files.{cleared}
 use Rattle.ffs_lib.specs.Volumes.{edits_of}
 use Rattle.ffs_lib.proofs.Laws.{staged}
