@@ -1,7 +1,7 @@
 // A disk that is not mounted.
 
 ghost use Rattle.std.specs.Prelude.{◌≡◌, ◌≢◌, ◌⊎◌, ◌*◌, ◌%◌, ◌^◌, ◌<◌, List, All, length, replicate, Some, None, Err, IfOk, IfErr, IfSome, OnOk, slice_get};
-ghost use Rattle.std.specs.Prelude.{slice_set, option_map};
+ghost use Rattle.std.specs.Prelude.{slice_set, option_map, []};
 ghost use Rattle.std.specs.List.{AllByRecursion};
 ghost use Rattle.std.specs.Io.KnownBytes.{Appends};
 ghost use Rattle.xn_model.specs.Images.{block_of, blocks_in, joined, IsSound};
@@ -12,7 +12,7 @@ ghost use Rattle.disk.specs.Mem.{crashed_lane};
 ghost use Rattle.world.specs.Disks.{image_of, settled_image, given_to, lane_at, lanes_with, AreLong, AreWhole, HaveCrashed, IsLaneHome, IsLong, IsUnmounted};
 ghost use Rattle.world.specs.Worlds.{mounted_value};
 
-use crate::mounted::MountedDisk;
+use crate::running::Running;
 use crate::ticket::DroppableTicket;
 use crate::tickets::Tickets;
 use crash_check::{ImageFault, mount};
@@ -61,6 +61,13 @@ impl<A: Allocator> UnmountedDisk<A> {
         UnmountedDisk { lanes, tickets }
     }
 
+    /// A disk without blocks.
+    pub fn none(alloc: Global) -> UnmountedDisk<A>
+        ensures { result ≡ [] }
+    {
+        UnmountedDisk::new(Lanes::none(alloc), Tickets::none(alloc))
+    }
+
     /// Mounts the disk, by a kernel of this number. `Err` has the first fault and gives the disk back; of a sound disk it
     /// comes only for want of memory.
     pub fn mount(
@@ -68,7 +75,7 @@ impl<A: Allocator> UnmountedDisk<A> {
         rt: &(impl Threads + Sync),
         alloc: Global,
         id: u64,
-    ) -> Result<MountedDisk<A>, (ImageFault, UnmountedDisk<A>)>
+    ) -> Result<Running<A>, (ImageFault, UnmountedDisk<A>)>
         ensures ok { IfOk result (λ disk. disk ≡ mounted_value self) }
         ensures sound { IfOk result (λ disk. IsSound (types_of_image self) (length self) (block_of self)) }
         ensures back { IfErr result (λ back. back.1 ≡ self) }
@@ -77,20 +84,20 @@ impl<A: Allocator> UnmountedDisk<A> {
     {
         let UnmountedDisk { lanes, tickets } = self;
         match mount(rt, alloc, lanes, id) {
-            Ok(kernel) => Ok(MountedDisk::new(kernel, tickets)),
+            Ok(kernel) => Ok(Running::new(alloc, kernel, tickets)),
             Err((fault, lanes)) => Err((fault, UnmountedDisk::new(lanes, tickets))),
         }
     }
 
     /// Mounts the disk, which is sound and of which all is known, by a kernel of this number: no lane is read.
-    pub fn mount_known(self, id: u64, state: State) -> MountedDisk<A>
+    pub fn mount_known(self, alloc: Global, id: u64, state: State) -> Running<A>
         requires sound { IsSound (types_of_image self) (length self) (block_of self) }
         requires known { state ≡ state_of self }
         ensures { result ≡ mounted_value self }
     {
         let UnmountedDisk { lanes, tickets } = self;
         let kernel = Kernel::over(id, lanes, state);
-        MountedDisk::new(kernel, tickets)
+        Running::new(alloc, kernel, tickets)
     }
 
     /// The bytes that the disk holds now, block after block, in the memory of these where that is enough.
