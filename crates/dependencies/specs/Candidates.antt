@@ -45,6 +45,10 @@ pub record Parks (old new : CandidatesValue) (b other : ℕ) : Type 0 where
   pub blocks : new.blocks ≡ slice_set old.blocks b false
   pub waits : new.waits ≡ slice_set old.waits b (Some other)
 
+-- no block is a candidate that was none before
+abbrev pub AddsNone : CandidatesValue → CandidatesValue → Type 0
+AddsNone old new = (b : ℕ) → is_candidate old b ≡ false → is_candidate new b ≡ false
+
 -- The least candidate waits for no block, or it can't be put on a list: it stands on one, or waits for a block that is none of these.
 abbrev pub IsTrimmed : Lives → CandidatesValue → Type 0
 IsTrimmed lives q = (b : ℕ) → position is_member q.blocks ≡ Some b →

@@ -3,7 +3,7 @@
 ghost use Rattle.std.specs.Prelude.{◌≡◌, ◌<◌, ◌≤◌, ◌⊎◌, true, false, cond, count_by, is_some, length, map, replicate, None, IfOk, IfSome, IfNone, IsTrue};
 ghost use Rattle.free_map.specs.Members.{IsLeastFrom, HasNoneFrom, is_member};
 ghost use Rattle.dependencies.specs.WaitLists.{at};
-ghost use Rattle.dependencies.specs.Candidates.{AreCandidates, CandidatesValue, IsTrimmed, Parks, Wakes, with_candidate};
+ghost use Rattle.dependencies.specs.Candidates.{AddsNone, AreCandidates, CandidatesValue, IsTrimmed, Parks, Wakes, with_candidate};
 ghost use Rattle.dependencies.specs.Homes.{AreHomes};
 ghost use Rattle.dependencies.specs.Pending.{is_dirty};
 
@@ -108,6 +108,7 @@ impl Candidates {
         ensures kept { AreCandidates cache.now self.new }
         ensures fewer { IsTrue result → count_by is_member self.new.blocks < count_by is_member self.old.blocks }
         ensures trimmed { result ≡ false → IsTrimmed cache.now self.new }
+        ensures none_new { AddsNone self.old self.new }
     {
         let Some(block) = self.blocks.least() else {
             return false;
@@ -125,6 +126,7 @@ impl Candidates {
         requires candidates { AreCandidates cache.now self.old }
         ensures kept { AreCandidates cache.now self.new }
         ensures trimmed { IsTrimmed cache.now self.new }
+        ensures none_new { AddsNone self.old self.new }
     {
         while self.park_least(cache, dirty, homes) {}
     }
@@ -137,6 +139,7 @@ impl Candidates {
         requires candidates { AreCandidates cache.now self.old }
         ensures kept { AreCandidates cache.now self.new }
         ensures trimmed { IsTrimmed cache.now self.new }
+        ensures none_new { AddsNone self.old self.new }
     {
         if self.blocks.count() > 0 {
             self.park_all(cache, dirty, homes);

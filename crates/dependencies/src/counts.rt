@@ -1,6 +1,6 @@
 // What is counted of the entries of a block, and whether there are any.
 
-ghost use Rattle.std.specs.Prelude.{◌≡◌, ℕ, ◌+◌, ◌<◌, ◌≤◌, [], false, IfSome, Some, count_by, slice_index, slice_set};
+ghost use Rattle.std.specs.Prelude.{◌≡◌, ℕ, ◌+◌, ◌<◌, ◌≤◌, [], false, IfNone, IfSome, Some, count_by, slice_index, slice_set};
 ghost use Rattle.std.specs.Option.{option_copied};
 ghost use Rattle.xn_model.specs.Lives.{drops_of, is_for, life_at};
 ghost use Rattle.xn_model.specs.Calls.{first_pending, life_pending};
@@ -50,7 +50,10 @@ pub fn count_entry(pending: &mut [u32; 32], oldest: &mut [u64; 32], fs: Option<F
 }
 
 /// A file system, where entries of it are pending.
-pub fn with_pending(pending: &[u32; 32], fs: Option<Fs>) -> Option<Fs> {
+pub fn with_pending(pending: &[u32; 32], fs: Option<Fs>) -> Option<Fs>
+    ensures some { IfSome result (λ f. (fs ≡ Some f) × (0 < slice_index pending.now f.number)) }
+    ensures none { IfNone result (IfSome fs (λ f. slice_index pending.now f.number ≡ 0)) }
+{
     let fs = fs?;
     if pending[fs.index()] > 0 {
         Some(fs)

@@ -4,7 +4,9 @@ ghost use Rattle.std.specs.Prelude.{◌≡◌, ◌<◌, ◌≤◌, ◌==◌, ℕ
 ghost use Rattle.xn_model.specs.Lives.{BlockState, Lives, accepted_at, begun_at, drops_of, freed, life_at, settled_at};
 ghost use Rattle.xn_model.specs.Calls.{first_pending, life_pending, new_life};
 ghost use Rattle.block_cache.specs.Systems.{system_of};
+ghost use Rattle.dependencies.specs.Candidates.{IsTrimmed, is_candidate};
 ghost use Rattle.dependencies.specs.Index.{IsIndex, MayFree};
+ghost use Rattle.dependencies.specs.Oldest.{MovesOn};
 ghost use Rattle.dependencies.specs.Pending.{pends};
 
 use crate::counts::{TakenOut, count_entry, discount, mark, take_out, with_pending};
@@ -45,7 +47,9 @@ impl Index {
     #[inline(always)]
     pub fn note_begin(&mut self, cache: &Cache, block: u32)
         requires { (lives : Lives) × (count : ℕ) × (cache.now ≡ begun_at lives block count) × IsIndex lives self.old }
-        ensures { IsIndex cache.now self.new }
+        ensures index { IsIndex cache.now self.new }
+        ensures trimmed { IsTrimmed cache.now self.new.candidates }
+        ensures begun { is_candidate self.new.candidates block ≡ false }
     {
         self.candidates.set(block, false);
         self.candidates.trim(cache, &self.dirty, &self.homes);
@@ -72,7 +76,10 @@ impl Index {
     #[inline(always)]
     pub fn note_settle(&mut self, cache: &Cache, taken: TakenOut)
         requires { IsIndex cache.now self.old }
-        ensures { IsIndex cache.now self.new }
+        ensures index { IsIndex cache.now self.new }
+        ensures trimmed { IsTrimmed cache.now self.new.candidates }
+        ensures moves { IfSome taken.fs (λ f. 0 < slice_index self.old.pending f.number →
+            MovesOn cache.now self.old.homes f.number self.old.oldest self.new.oldest) }
     {
         self.candidates.trim(cache, &self.dirty, &self.homes);
         self.move_on(cache, taken.fs);
@@ -96,7 +103,10 @@ impl Index {
     #[inline(always)]
     pub fn move_on(&mut self, cache: &Cache, fs: Option<Fs>)
         requires { IsIndex cache.now self.old }
-        ensures { IsIndex cache.now self.new }
+        ensures index { IsIndex cache.now self.new }
+        ensures moves { IfSome fs (λ f. 0 < slice_index self.old.pending f.number →
+            MovesOn cache.now self.old.homes f.number self.old.oldest self.new.oldest) }
+        ensures rest { self.new ≡ record self.old { oldest = self.new.oldest } }
     {
         if let Some(fs) = with_pending(&self.pending, fs) {
             self.move_on_for(cache, fs);
@@ -107,7 +117,9 @@ impl Index {
     #[inline(never)]
     fn move_on_for(&mut self, cache: &Cache, fs: Fs)
         requires { IsIndex cache.now self.old }
-        ensures { IsIndex cache.now self.new }
+        ensures index { IsIndex cache.now self.new }
+        ensures moves { MovesOn cache.now self.old.homes fs.number self.old.oldest self.new.oldest }
+        ensures rest { self.new ≡ record self.old { oldest = self.new.oldest } }
     {
         move_on(&mut self.oldest, cache, &self.homes, fs);
     }

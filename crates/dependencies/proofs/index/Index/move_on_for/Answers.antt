@@ -7,7 +7,7 @@ move_on-requires c =
     let mine = subst (IsIndex c.args.cache.now) (sym c.self.view_is) c.requires in
     record { homes = mine.homes; oldest = mine.oldest }
 
-pub returns : goal.returns
-returns c =
+pub returns-clause-index : goal.returns-clause-index
+returns-clause-index c =
     let mine = subst (IsIndex c.args.cache.now) (sym c.self.view_is) c.requires in
     record { counted = mine.counted; oldest = c.move_on.ensures.oldest; dirty = mine.dirty; candidates = mine.candidates; homes = mine.homes }

@@ -10,4 +10,4 @@ note_begin-requires c = (c.self.inside.cache, c.args.count, c.begin.ensures, c.s
 pub invariant_of-self : goal.invariant_of-self
 invariant_of-self c =
     let owned = begun_counts c.self.inside.owned c.self.inside.cache c.args.block c.args.count c.self.invariant.0 in
-    (subst (λ (xs : Lives). AreOwnedCounts c.self.inside.owned xs) (sym c.begin.ensures) owned, c.note_begin.ensures)
+    (subst (λ (xs : Lives). AreOwnedCounts c.self.inside.owned xs) (sym c.begin.ensures) owned, c.note_begin.ensures.index)

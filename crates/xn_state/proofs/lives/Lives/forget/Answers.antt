@@ -13,5 +13,5 @@ invariant_of-self c =
     let unowned = subst (λ (xs : Lives). IsUnowned (life_at xs c.args.block)) (sym c.self.view_is) c.requires in
     rw c.end.ensures (
       ended_counts c.self.inside.owned cache c.args.block c.self.invariant.0 unowned,
-      subst (λ (xs : Lives). IsIndex xs c.move_on.new.self) c.end.ensures c.move_on.ensures,
+      subst (λ (xs : Lives). IsIndex xs c.move_on.new.self) c.end.ensures c.move_on.ensures.index,
     )

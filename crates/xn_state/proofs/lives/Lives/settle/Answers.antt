@@ -23,5 +23,5 @@ invariant_of-self c =
     let may = subst (λ (xs : Lives). MayFree xs c.args.block (drops_of (first_pending c.args.count (life_at xs c.args.block)))) (sym c.self.view_is) c.requires.drops in
     rw c.end_write-freed.ensures.lives (
       settled_counts c.self.inside.owned cache c.args.block c.args.count drops c.self.invariant.0 may.unowned,
-      subst (λ (xs : Lives). IsIndex xs c.note_settle.new.self) c.end_write-freed.ensures.lives c.note_settle.ensures,
+      subst (λ (xs : Lives). IsIndex xs c.note_settle.new.self) c.end_write-freed.ensures.lives c.note_settle.ensures.index,
     )
