@@ -6,7 +6,7 @@
 --     other_record           the first live record of a number, but for the one at a place
 --     rewritten bytes        the live records in their order, and zeros up to the old end
 --     made, with_number      a bucket with a record made behind the others; with the number of one set
-use Rattle.std.specs.Prelude.{ℕ, ◌+◌, ◌-◌, ◌==◌, Bool, not, ◌&&◌, List, ◌++◌, length, drop, filter, find, Option, bytes_eq, if◌then◌else◌}
+use Rattle.std.specs.Prelude.{ℕ, ◌-◌, ◌==◌, Bool, not, ◌&&◌, List, ◌++◌, length, drop, filter, find, Option, bytes_eq, if◌then◌else◌}
 use Rattle.std.specs.Int.{w32, to_le_bytes}
 use Rattle.xn_model.specs.BareDisks.{zeros}
 use Rattle.xn_model.specs.Lists.{blank, put}

@@ -1,5 +1,5 @@
 -- The nine buckets of a directory in which a name may stand: bucket 0, and one of each level from 1 to 8, of which level l has 8^l.
-use Rattle.std.specs.Prelude.{ℕ, zero, suc, ◌+◌, ◌*◌, ◌%◌, ◌^◌, List, map, fold}
+use Rattle.std.specs.Prelude.{ℕ, zero, suc, ◌+◌, ◌*◌, ◌%◌, ◌^◌, List, map}
 use Rattle.std.specs.List.{range_with_len}
 use Rattle.std.specs.Hash.DefaultHasher as sip
 

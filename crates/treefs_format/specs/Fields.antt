@@ -1,10 +1,11 @@
--- The fields of an inode before its pointers, and changes of them.
+-- The fields of an inode before its pointers, and changes of them. A mode has the kind in its four highest bits, and the permissions
+-- in the twelve below; see Inodes.
 --     fields_of m             those that the bytes of an inode block say
 --     field_bytes fields      the first 48 bytes of an inode block
 --     AreInRange fields       each field is as wide as its bytes
 --     changed fields change   with one of them set
 --     changes_patch changes   the patch that makes some changes of fields that stand side by side
-use Rattle.std.specs.Prelude.{◌≡◌, ℕ, ℤ, pos, ◌+◌, ◌^◌, ◌<◌, ◌==◌, Bool, true, ◌&&◌, List, [], ◌∷◌, ◌++◌, flat_map, fold, slice_index, FitsSigned}
+use Rattle.std.specs.Prelude.{ℕ, ℤ, ◌+◌, ◌^◌, ◌<◌, ◌==◌, Bool, true, ◌&&◌, List, [], ◌∷◌, ◌++◌, flat_map, slice_index, FitsSigned}
 use Rattle.std.specs.Int.{Width, w16, w32, w64, byte_len, cast_unsigned, to_le_bytes}
 use Rattle.xn_model.specs.Calls.{Patch}
 use Rattle.xn_model.specs.Root.{word_at}

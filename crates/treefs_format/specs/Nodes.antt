@@ -1,5 +1,5 @@
 -- Node blocks: in byte 0 the type of what they point to, and 127 pointers.
-use Rattle.std.specs.Prelude.{ℕ, ◌+◌, ◌*◌, List, ◌∷◌, slice_index}
+use Rattle.std.specs.Prelude.{ℕ, List, ◌∷◌, slice_index}
 use Rattle.xn_model.specs.BareDisks.{zeros}
 use Rattle.xn_model.specs.Calls.{Patch}
 use Rattle.treefs_format.specs.Numbers.{word_bytes, words_at}

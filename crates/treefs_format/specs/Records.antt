@@ -4,7 +4,7 @@
 --     entries_of bytes    those that bytes begin with. A length 0, a name that goes past the end, or fewer than 5 bytes end them.
 --     Record, records_of  the same, each with the place at which its record begins
 --     end_of bytes        the place behind the last record
-use Rattle.std.specs.Prelude.{ℕ, zero, suc, ◌+◌, ◌==◌, Bool, not, ◌&&◌, nat_le, nat_lt, List, [], ◌∷◌, ◌++◌, length, take, drop, flat_map, sum_by, slice_index, if◌then◌else◌}
+use Rattle.std.specs.Prelude.{ℕ, zero, suc, ◌+◌, ◌==◌, Bool, not, ◌&&◌, nat_le, nat_lt, List, [], ◌∷◌, ◌++◌, length, take, drop, flat_map, slice_index, if◌then◌else◌}
 use Rattle.std.specs.Int.{w32, to_le_bytes}
 use Rattle.xn_model.specs.Root.{word_at}
 
@@ -54,7 +54,8 @@ abbrev pub records_of : List ℕ → List Record
 records_of bytes = placed 0 (entries_of bytes)
 
 abbrev pub total_length : List Entry → ℕ
-total_length entries = sum_by entry_length entries
+total_length [] = 0
+total_length (e ∷ entries) = entry_length e + total_length entries
 
 abbrev pub end_of : List ℕ → ℕ
 end_of bytes = total_length (entries_of bytes)

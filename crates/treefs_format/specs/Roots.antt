@@ -1,7 +1,7 @@
 -- Inode 0, whose leaves are the inodes: leaf n - 1 is inode n.
 --     root_content key clean    what its content begins with: a mark, the key of the names' hash, whether the volume was closed
 --     root_in content           the key and that byte, where the mark stands
-use Rattle.std.specs.Prelude.{ℕ, ◌-◌, ◌==◌, Bool, List, [], ◌∷◌, ◌++◌, take, drop, slice_index, bytes_eq, codes, Option, None, Some, if◌then◌else◌}
+use Rattle.std.specs.Prelude.{ℕ, ◌-◌, ◌==◌, Bool, List, [], ◌∷◌, ◌++◌, take, drop, slice_index, bytes_eq, codes}
 use Rattle.std.specs.Int.{from_bool}
 
 -- "XNTREE1" and a byte 0

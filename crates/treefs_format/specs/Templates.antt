@@ -10,7 +10,6 @@ use Rattle.templates.specs.Templates.{TemplateValue}
 use Rattle.templates.specs.BuiltIns.{fixed_size}
 use Rattle.treefs_format.specs.Inodes.{pointers_of}
 use Rattle.treefs_format.specs.Nodes.{child_type_of, children_of}
-use Rattle.treefs_format.specs.Numbers.{number_at}
 use Rattle.std.specs.Prelude.{slice_index}
 
 -- a node: the type in its byte 0, and 127 pointers from byte 4 on

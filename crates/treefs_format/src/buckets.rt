@@ -2,9 +2,9 @@
 
 ghost use Rattle.std.specs.Prelude.{◌≡◌, ◌+◌, ◌≤◌, length, IfOk, option_map};
 ghost use Rattle.std.specs.Int.{w32, to_le_bytes};
-ghost use Rattle.treefs_format.specs.Buckets.{dead_record, live_record, other_record, rewritten, room_behind, room_without};
+ghost use Rattle.treefs_format.specs.Buckets.{dead_record, live_entries, live_record, other_record, rewritten, room_behind, room_without};
 ghost use Rattle.treefs_format.specs.Left.{record_of};
-ghost use Rattle.treefs_format.specs.Records.{end_of, entry_bytes};
+ghost use Rattle.treefs_format.specs.Records.{end_of, entry_bytes, total_length};
 
 use crate::records::{RECORD_HEAD, Record, Records, append_record};
 use edit_list::Patch;
@@ -13,11 +13,12 @@ use std::alloc::{AllocError, Global};
 /// The place behind the last record of a bucket.
 pub fn end(bucket: &[u8]) -> usize
     requires { length bucket.now ≤ 512 }
-    ensures { result ≡ end_of bucket.now }
+    ensures end { result ≡ end_of bucket.now }
+    ensures within { result ≤ length bucket.now }
 {
     let mut end = 0;
     for record in Records::new(bucket) {
-        end = record.offset + RECORD_HEAD + record.name.len();
+        end += RECORD_HEAD + record.name.len();
     }
     end
 }
@@ -35,13 +36,22 @@ pub fn room_without(bucket: &[u8]) -> usize
     requires { length bucket.now ≤ 512 }
     ensures { result ≡ room_without bucket.now }
 {
-    let mut room = bucket.len();
+    bucket.len() - live_length(bucket)
+}
+
+/// How many bytes the live records of a bucket have.
+fn live_length(bucket: &[u8]) -> usize
+    requires { length bucket.now ≤ 512 }
+    ensures length { result ≡ total_length (live_entries bucket.now) }
+    ensures within { result ≤ length bucket.now }
+{
+    let mut total = 0;
     for record in Records::new(bucket) {
         if record.number != 0 {
-            room -= RECORD_HEAD + record.name.len();
+            total += RECORD_HEAD + record.name.len();
         }
     }
-    room
+    total
 }
 
 /// The first live record of a name.
@@ -49,12 +59,7 @@ pub fn live_record<'a>(bucket: &'a [u8], name: &[u8]) -> Option<Record<'a>>
     requires { length bucket.now ≤ 512 }
     ensures { option_map record_of result ≡ live_record bucket.now name.now }
 {
-    for record in Records::new(bucket) {
-        if record.number != 0 && record.name == name {
-            return Some(record);
-        }
-    }
-    None
+    Records::new(bucket).find(|record| record.number != 0 && record.name == name)
 }
 
 /// The first dead record of a name.
@@ -62,12 +67,7 @@ pub fn dead_record<'a>(bucket: &'a [u8], name: &[u8]) -> Option<Record<'a>>
     requires { length bucket.now ≤ 512 }
     ensures { option_map record_of result ≡ dead_record bucket.now name.now }
 {
-    for record in Records::new(bucket) {
-        if record.number == 0 && record.name == name {
-            return Some(record);
-        }
-    }
-    None
+    Records::new(bucket).find(|record| record.number == 0 && record.name == name)
 }
 
 /// The first record with a number but for the one at a place.
@@ -75,12 +75,7 @@ pub fn other_record(bucket: &[u8], number: u32, place: usize) -> Option<Record<'
     requires { length bucket.now ≤ 512 }
     ensures { option_map record_of result ≡ other_record bucket.now number place }
 {
-    for record in Records::new(bucket) {
-        if record.number == number && record.offset != place {
-            return Some(record);
-        }
-    }
-    None
+    Records::new(bucket).find(|record| record.number == number && record.offset != place)
 }
 
 /// The patch that writes the live records of a bucket anew, in their order, and zeros behind them up to the end of the old records.

@@ -20,10 +20,16 @@ pub fn name_hash(key: &[u8; 16], name: &[u8]) -> u64
 }
 
 /// The bucket of a level, 0 to 8, in which a name with this hash may stand.
+#[tactic(auto, using(crate::proofs::Levels::next_first, crate::proofs::Levels::next_buckets, crate::proofs::Levels::few_buckets))]
 pub fn candidate(hash: u64, level: u32) -> u32
     requires { level < LEVELS }
     ensures { result ≡ candidate hash level }
 {
-    let buckets = 8u64.pow(level);
-    ((buckets - 1) / 7 + hash % buckets) as u32
+    let mut first = 0;
+    let mut buckets = 1;
+    for _level in 0..level {
+        first += buckets;
+        buckets *= 8;
+    }
+    (first + hash % buckets) as u32
 }

@@ -2,6 +2,7 @@
 
 ghost use Rattle.std.specs.Prelude.{◌≡◌, ◌++◌, ◌≢◌, [], drop, length, IfOk, IsTrue};
 
+use crate::numbers::{half_at, long_at, signed_at, word_at};
 use byteorder::{ByteOrder, LittleEndian};
 use edit_list::Patch;
 use std::alloc::{AllocError, Global};
@@ -43,15 +44,15 @@ impl Fields {
         Fields {
             leaf_type: block[0],
             node_type: block[1],
-            mode: LittleEndian::read_u16(&block[2..4]),
-            links: LittleEndian::read_u32(&block[4..8]),
-            uid: LittleEndian::read_u32(&block[8..12]),
-            gid: LittleEndian::read_u32(&block[12..16]),
-            size: LittleEndian::read_u64(&block[16..24]),
-            mtime: LittleEndian::read_i64(&block[24..32]),
-            ctime: LittleEndian::read_i64(&block[32..40]),
-            parent: LittleEndian::read_u32(&block[40..44]),
-            generation: LittleEndian::read_u32(&block[44..48]),
+            mode: half_at(block, 2),
+            links: word_at(block, 4),
+            uid: word_at(block, 8),
+            gid: word_at(block, 12),
+            size: long_at(block, 16),
+            mtime: signed_at(block, 24),
+            ctime: signed_at(block, 32),
+            parent: word_at(block, 40),
+            generation: word_at(block, 44),
         }
     }
 

@@ -1,6 +1,7 @@
 // Inode blocks: the fields, 20 pointers, and the first 384 bytes of the content.
 
-ghost use Rattle.std.specs.Prelude.{◌≡◌, ◌+◌, ◌≤◌, length, IfOk};
+ghost use Rattle.std.specs.Prelude.{◌≡◌, ◌+◌, ◌-◌, ◌≤◌, ◌++◌, length, IfOk};
+ghost use Rattle.xn_model.specs.BareDisks.{zeros};
 ghost use Rattle.treefs_format.specs.Inodes.{content_of, content_patch, inode_bytes};
 
 use crate::fields::Fields;
@@ -21,8 +22,18 @@ pub fn new_inode(fields: &Fields, head: &[u8]) -> [u8; 512]
 {
     let mut block = [0; 512];
     block[..48].copy_from_slice(&fields.bytes());
-    block[CONTENT..CONTENT + head.len()].copy_from_slice(head);
+    block[CONTENT..].copy_from_slice(&padded(head));
     block
+}
+
+/// The beginning of a content, with zeros behind it.
+fn padded(head: &[u8]) -> [u8; 384]
+    requires { length head.now ≤ 384 }
+    ensures { result ≡ head.now ++ zeros (384 - length head.now) }
+{
+    let mut bytes = [0; 384];
+    bytes[..head.len()].copy_from_slice(head);
+    bytes
 }
 
 /// The first 384 bytes of the content; of a directory its bucket 0.

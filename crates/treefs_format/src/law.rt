@@ -13,7 +13,7 @@ ghost use Rattle.treefs_format.specs.Inodes.{Kind, content_of, content_patch, in
 ghost use Rattle.treefs_format.specs.Names.{is_name};
 ghost use Rattle.treefs_format.specs.Nodes.{child_type_of, children_of, node_bytes, pointers_patch};
 ghost use Rattle.treefs_format.specs.Paths.{IsPath, last_beside, leaf_count, steps};
-ghost use Rattle.treefs_format.specs.Records.{Entry, Record, end_of, entries_of, entry_bytes, placed, records_of, total_length};
+ghost use Rattle.treefs_format.specs.Records.{Entry, Record, end_of, entries_of, entry_bytes, records_of};
 ghost use Rattle.treefs_format.specs.Roots.{is_clean, is_marked, key_of, root_content};
 ghost use Rattle.treefs_format.specs.Leaves.{greatest_size, leaves_kept};
 ghost use Rattle.treefs_format.specs.Places.{place_of};
@@ -105,9 +105,9 @@ pub fn sizes_keep_leaves()
 /// A record that is made is read back, behind all others, which stay as they were.
 pub fn records_are_made()
     ensures record { (bytes : List ℕ) (e : Entry) → IsTrue (is_whole bytes) → All (λ b. b < 256) bytes → e.number < 2 ^ 32 → IsTrue (is_name e.name) →
-        end_of bytes + length (entry_bytes e) ≤ length bytes → entries_of (made bytes e) ≡ entries_of bytes ++ e ∷ [] }
+        entries_of (made bytes e) ≡ entries_of bytes ++ e ∷ [] }
     ensures whole { (bytes : List ℕ) (e : Entry) → IsTrue (is_whole bytes) → All (λ b. b < 256) bytes → e.number < 2 ^ 32 → IsTrue (is_name e.name) →
-        end_of bytes + length (entry_bytes e) ≤ length bytes → IsTrue (is_whole (made bytes e)) }
+        IsTrue (is_whole (made bytes e)) }
 {}
 
 /// A number that is set changes its record alone; what stands behind the records stays.

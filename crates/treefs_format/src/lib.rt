@@ -11,6 +11,7 @@ pub mod kind;
 pub mod law;
 pub mod names;
 pub mod nodes;
+mod numbers;
 pub mod paths;
 pub mod pointers;
 pub mod records;

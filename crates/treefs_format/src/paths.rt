@@ -1,6 +1,6 @@
 // Where the pointers stand that lead from an inode to a leaf.
 
-ghost use Rattle.std.specs.Prelude.{◌≡◌, ◌<◌, ◌≤◌, ◌++◌, length, map, reverse};
+ghost use Rattle.std.specs.Prelude.{◌≡◌, ◌<◌, ◌≤◌, ◌++◌, ◌+◌, length, map};
 ghost use Rattle.treefs_format.specs.Paths.{first_leaf, height_of, last_beside, leaf_count, node_offset, place_in_tree, places, steps};
 
 use arrayvec::ArrayVec;
@@ -38,11 +38,11 @@ pub fn first_leaf(height: u32) -> u32
     }
 }
 
-/// The offsets of the pointers that lead from an inode to a leaf: the first one in the inode, each other in the node to which the
-/// one before points.
+/// The offsets of the pointers that lead from an inode to a leaf, the last one first: the last one here stands in the inode, each
+/// other in the node to which the one behind it points.
 pub fn path(leaf: u32) -> ArrayVec<u16, 5>
     requires { leaf < leaf_count }
-    ensures { result.items ≡ reverse (steps leaf) }
+    ensures { result.items ≡ steps leaf }
 {
     let mut offsets = ArrayVec::new();
     if leaf < OWN_LEAVES {
@@ -50,11 +50,12 @@ pub fn path(leaf: u32) -> ArrayVec<u16, 5>
         return offsets;
     }
     let height = height(leaf);
-    offsets.push((108 + 4 * height) as u16);
-    let place = leaf - first_leaf(height);
-    for level in (0..height).rev() {
-        offsets.push((4 + 4 * (place / 127u32.pow(level) % 127)) as u16);
+    let mut place = leaf - first_leaf(height);
+    for _level in 0..height {
+        offsets.push((4 + 4 * (place % 127)) as u16);
+        place /= 127;
     }
+    offsets.push((108 + 4 * height) as u16);
     offsets
 }
 

@@ -1,21 +1,13 @@
 // Pointers in inodes and nodes.
 
 ghost use Rattle.std.specs.Prelude.{◌≡◌, ◌+◌, ◌*◌, ◌≤◌, length, IfOk};
-ghost use Rattle.xn_model.specs.Root.{word_at};
 ghost use Rattle.treefs_format.specs.Nodes.{pointers_patch};
 
-use byteorder::{ByteOrder, LittleEndian};
 use edit_list::Patch;
 use std::alloc::{AllocError, Global};
 
 /// The pointer that begins at a byte of an inode or a node; 0 for none.
-#[tactic(auto, unfolding(xn_model::specs::Root::word_at))]
-pub fn pointer_at(block: &[u8; 512], offset: usize) -> u32
-    requires { offset + 4 ≤ 512 }
-    ensures { result ≡ word_at block.now offset }
-{
-    LittleEndian::read_u32(&block[offset..offset + 4])
-}
+pub use crate::numbers::word_at as pointer_at;
 
 /// The patch that sets pointers which stand side by side, the first of them at a byte of an inode or a node. `Err` comes only for want
 /// of memory.

@@ -1,6 +1,7 @@
 // Records of names, one behind the other.
 
 ghost use Rattle.std.specs.Prelude.{◌≡◌, ◌+◌, ◌≤◌, ◌^◌, ◌<◌, length, drop, IfOk, ◌++◌};
+ghost use Rattle.xn_model.specs.Root.{word_at};
 ghost use Rattle.treefs_format.specs.Records.{begins_record, entry_bytes, name_length};
 
 use byteorder::{ByteOrder, LittleEndian};
@@ -16,15 +17,17 @@ pub struct Record<'a> {
     pub offset: usize,
     /// The inode that it names; 0 where it is dead.
     pub number: u32,
-    /// Its name.
+    /// Its name, of at most 255 bytes.
     pub name: &'a [u8],
+    ghost short: { length name.now ≤ 255 },
 }
 
 /// The records that bytes begin with, in their order.
 #[derive(Debug, Drop)]
 pub struct Records<'a> {
-    bytes: &'a [u8],
     offset: usize,
+    rest: &'a [u8],
+    ghost within: { offset + length rest.now ≤ 512 },
 }
 
 impl<'a> Records<'a> {
@@ -37,8 +40,8 @@ impl<'a> Records<'a> {
         ensures { records_left result ≡ records_of bucket.now }
     {
         Records {
-            bytes: bucket,
             offset: 0,
+            rest: bucket,
         }
     }
 }
@@ -54,19 +57,29 @@ impl<'a> Iterator for Records<'a> {
     ghost remaining = { item_count records_left };
 
     fn next(&mut self) -> Option<Record<'a>> {
-        let rest = &self.bytes[self.offset..];
+        let rest = self.rest;
         if !begins_record(rest) {
             return None;
         }
-        let length = usize::from(rest[4]);
+        let end = RECORD_HEAD + usize::from(rest[4]);
         let record = Record {
             offset: self.offset,
-            number: LittleEndian::read_u32(&rest[..4]),
-            name: &rest[RECORD_HEAD..RECORD_HEAD + length],
+            number: first_number(rest),
+            name: &rest[RECORD_HEAD..end],
         };
-        self.offset += RECORD_HEAD + length;
+        self.offset += end;
+        self.rest = &rest[end..];
         Some(record)
     }
+}
+
+/// The number in the first four bytes.
+#[tactic(auto, unfolding(xn_model::specs::Root::word_at))]
+fn first_number(bytes: &[u8]) -> u32
+    requires { 4 ≤ length bytes.now }
+    ensures { result ≡ word_at bytes.now 0 }
+{
+    LittleEndian::read_u32(&bytes[..4])
 }
 
 /// Whether bytes begin with a record.
