@@ -1,0 +1,17 @@
+pub mod Begun
+pub mod Behind
+pub mod Edited
+pub mod Follows
+pub mod InPlace
+pub mod Kept
+pub mod LinkKinds
+pub mod Links
+pub mod LinksOver
+pub mod Over
+pub mod Places
+pub mod Reading
+pub mod Single
+pub mod Table
+pub mod TableKeeps
+pub mod TableKinds
+pub mod Total
