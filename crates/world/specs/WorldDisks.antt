@@ -6,9 +6,9 @@ use Rattle.world.specs.Worlds.{WorldValue, down_value, IsSoundDisk}
 
 abbrev pub disk_value : {A : Type 0} → WorldDisk A → WorldValue
 disk_value (Up value) = value
-disk_value (Down kernel image) = down_value image
+disk_value (Down image) = down_value image
 
 -- a disk that is down is sound
 abbrev pub IsWorldDisk : {A : Type 0} → WorldDisk A → Type 0
 IsWorldDisk (Up value) = ⊤
-IsWorldDisk (Down kernel image) = IsSoundDisk image
+IsWorldDisk (Down image) = IsSoundDisk image

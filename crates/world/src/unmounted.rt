@@ -25,6 +25,9 @@ use std::thread::Threads;
 use xn_kernel::Kernel;
 use xn_state::State;
 
+/// The number of each kernel of a world. It has one at a time, and a crash takes its tickets with it, so that no other is needed.
+const KERNEL: u64 = 1;
+
 /// A disk in memory whose lanes are all at home, and the empty places of its tickets.
 pub struct UnmountedDisk<A: Allocator> {
     lanes: Lanes<MemLane<A>>,
@@ -68,13 +71,12 @@ impl<A: Allocator> UnmountedDisk<A> {
         UnmountedDisk::new(Lanes::none(alloc), Tickets::none(alloc))
     }
 
-    /// Mounts the disk, by a kernel of this number. `Err` has the first fault and gives the disk back; of a sound disk it
+    /// Mounts the disk. `Err` has the first fault and gives the disk back; of a sound disk it
     /// comes only for want of memory.
     pub fn mount(
         self,
         rt: &(impl Threads + Sync),
         alloc: Global,
-        id: u64,
     ) -> Result<Running<A>, (ImageFault, UnmountedDisk<A>)>
         ensures ok { IfOk result (λ disk. disk ≡ mounted_value self) }
         ensures sound { IfOk result (λ disk. IsSound (types_of_image self) (length self) (block_of self)) }
@@ -83,20 +85,20 @@ impl<A: Allocator> UnmountedDisk<A> {
         ensures memory { IfErr result (λ back. IsSound (types_of_image self) (length self) (block_of self) → back.0 ≡ ImageFault.NoMemory) }
     {
         let UnmountedDisk { lanes, tickets } = self;
-        match mount(rt, alloc, lanes, id) {
+        match mount(rt, alloc, lanes, KERNEL) {
             Ok(kernel) => Ok(Running::new(alloc, kernel, tickets)),
             Err((fault, lanes)) => Err((fault, UnmountedDisk::new(lanes, tickets))),
         }
     }
 
-    /// Mounts the disk, which is sound and of which all is known, by a kernel of this number: no lane is read.
-    pub fn mount_known(self, alloc: Global, id: u64, state: State) -> Running<A>
+    /// Mounts the disk, which is sound and of which all is known: no lane is read.
+    pub fn mount_known(self, alloc: Global, state: State) -> Running<A>
         requires sound { IsSound (types_of_image self) (length self) (block_of self) }
         requires known { state ≡ state_of self }
         ensures { result ≡ mounted_value self }
     {
         let UnmountedDisk { lanes, tickets } = self;
-        let kernel = Kernel::over(id, lanes, state);
+        let kernel = Kernel::over(KERNEL, lanes, state);
         Running::new(alloc, kernel, tickets)
     }
 

@@ -43,11 +43,11 @@ pub struct World<A: Allocator = Global> {
     disk: WorldDisk<A>,
 }
 
-/// The disk of a world: one that is mounted, or the number of the last kernel and one that is not.
+/// The disk of a world, which is mounted or not.
 #[derive(Drop)]
 enum WorldDisk<A: Allocator> {
     Up(Running<A>),
-    Down(u64, UnmountedDisk<A>),
+    Down(UnmountedDisk<A>),
 }
 
 impl<A: Allocator> Model for World<A> {
@@ -150,7 +150,7 @@ impl<A: Allocator + Copy> World<A> {
         ensures err { IfErr result (λ fault. fault ≡ ImageFault.NoMemory) }
     {
         match UnmountedDisk::of_image(alloc, rooms, image) {
-            Ok(disk) => Ok(World::up(alloc, disk.mount_known(alloc, 1, state))),
+            Ok(disk) => Ok(World::up(alloc, disk.mount_known(alloc, state))),
             Err(_) => Err(ImageFault::NoMemory),
         }
     }
@@ -247,7 +247,7 @@ impl<A: Allocator> World<A> {
     {
         match &self.disk {
             WorldDisk::Up(running) => running.image_into(room),
-            WorldDisk::Down(_, disk) => disk.image_into(room),
+            WorldDisk::Down(disk) => disk.image_into(room),
         }
     }
 
@@ -259,7 +259,7 @@ impl<A: Allocator> World<A> {
         let World { alloc, disk } = self;
         match disk {
             WorldDisk::Up(running) => running.write_to(out),
-            WorldDisk::Down(_, disk) => disk.write_to(alloc, out),
+            WorldDisk::Down(disk) => disk.write_to(alloc, out),
         }
     }
 
@@ -270,7 +270,7 @@ impl<A: Allocator> World<A> {
     {
         match &self.disk {
             WorldDisk::Up(running) => running.is_in_flight(block),
-            WorldDisk::Down(_, _) => false,
+            WorldDisk::Down(_) => false,
         }
     }
 
@@ -280,7 +280,7 @@ impl<A: Allocator> World<A> {
     {
         match &self.disk {
             WorldDisk::Up(running) => running.is_any_in_flight(),
-            WorldDisk::Down(_, _) => false,
+            WorldDisk::Down(_) => false,
         }
     }
 
@@ -290,7 +290,7 @@ impl<A: Allocator> World<A> {
     {
         match &self.disk {
             WorldDisk::Up(running) => running.is_down(),
-            WorldDisk::Down(_, _) => true,
+            WorldDisk::Down(_) => true,
         }
     }
 
@@ -315,9 +315,9 @@ impl<A: Allocator> World<A> {
                 running.is_up();
                 Ok(running)
             }
-            WorldDisk::Down(kernel, disk) => Err(World {
+            WorldDisk::Down(disk) => Err(World {
                 alloc,
-                disk: WorldDisk::Down(kernel, disk),
+                disk: WorldDisk::Down(disk),
             }),
         }
     }
@@ -348,7 +348,7 @@ impl<A: Allocator> World<A> {
     {
         match &mut self.disk {
             WorldDisk::Up(running) => running.step_into(event, reply),
-            WorldDisk::Down(_, _) => *reply = Reply::Down,
+            WorldDisk::Down(_) => *reply = Reply::Down,
         }
     }
 
@@ -357,17 +357,16 @@ impl<A: Allocator> World<A> {
     fn crash(&mut self, rt: &(impl Threads + Sync), kept: &[u32]) -> Reply
         ensures { model.AfterCrash (world_with self.old) kept.now (reply_of result) (world_with self.new) }
     {
-        let none = WorldDisk::Down(0, UnmountedDisk::none(self.alloc));
-        let (kernel, disk) = mem::replace(&mut self.disk, none).left(kept);
-        let kernel = kernel.wrapping_add(1);
-        match disk.mount(rt, self.alloc, kernel) {
+        let none = WorldDisk::Down(UnmountedDisk::none(self.alloc));
+        let disk = mem::replace(&mut self.disk, none).left(kept);
+        match disk.mount(rt, self.alloc) {
             Ok(running) => {
                 let reply = running.counts();
                 self.disk = WorldDisk::Up(running);
                 reply
             }
             Err((ImageFault::NoMemory, disk)) => {
-                self.disk = WorldDisk::Down(kernel, disk);
+                self.disk = WorldDisk::Down(disk);
                 Reply::Down
             }
             Err(_) => unreachable!(),
@@ -388,7 +387,7 @@ impl<A: Allocator> World<A> {
     {
         match &self.disk {
             WorldDisk::Up(running) => running.rules(),
-            WorldDisk::Down(_, _) => {}
+            WorldDisk::Down(_) => {}
         }
     }
 
@@ -399,19 +398,18 @@ impl<A: Allocator> World<A> {
 }
 
 impl<A: Allocator> WorldDisk<A> {
-    /// The number of the last kernel, and what a crash leaves of the disk that keeps the open writes of these blocks and no others: all lanes
-    /// are at home, with no open write.
-    fn left(self, kept: &[u32]) -> (u64, UnmountedDisk<A>)
+    /// What a crash leaves of the disk that keeps the open writes of these blocks and no others: all lanes are at home, with no open write.
+    fn left(self, kept: &[u32]) -> UnmountedDisk<A>
         requires { IsWorldDisk self }
-        ensures image { result.1 ≡ model.left (world_with (disk_value self)) kept.now }
-        ensures sound { IsSoundDisk result.1 }
+        ensures image { result ≡ model.left (world_with (disk_value self)) kept.now }
+        ensures sound { IsSoundDisk result }
     {
         match self {
             WorldDisk::Up(running) => {
                 running.rules();
-                (running.kernel().id(), running.unmount(kept))
+                running.unmount(kept)
             }
-            WorldDisk::Down(kernel, disk) => (kernel, disk),
+            WorldDisk::Down(disk) => disk,
         }
     }
 }

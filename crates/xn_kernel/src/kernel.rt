@@ -123,13 +123,6 @@ impl<L: Lane> Kernel<L> {
         let _id = self.id;
     }
 
-    /// Its number.
-    pub fn id(&self) -> u64
-        ensures { result ≡ self.now.id }
-    {
-        self.id
-    }
-
     /// The lane of a block, for looking; `None` while a write of the block is under way, and past the
     /// end of the disk.
     pub fn lane(&self, block: u32) -> Option<&L>

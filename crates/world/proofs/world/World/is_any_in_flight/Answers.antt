@@ -6,5 +6,5 @@ use Rattle.world.proofs.world.World.is_any_in_flight.Goals as goal
 
 pub returns-in-Down : goal.returns-in-Down
 returns-in-Down g c =
-    let calm = down_is_idle c.in-Down.field-1 (subst IsWorldDisk c.in-Down.is c.self.invariant) in
+    let calm = down_is_idle c.in-Down.field-0 (subst IsWorldDisk c.in-Down.is c.self.invariant) in
     sym calm ∙ ap (λ (v : WorldValue). is_any_in_flight v.state) (ap disk_value (sym c.in-Down.is) ∙ c.self.view_is)

@@ -7,5 +7,5 @@ use Rattle.world.proofs.world.World.rules.Goals as goal
 
 pub returns-in-Down : goal.returns-in-Down
 returns-in-Down g c =
-    let holds = down_holds c.in-Down.field-1 (subst IsWorldDisk c.in-Down.is c.self.invariant) in
+    let holds = down_holds c.in-Down.field-0 (subst IsWorldDisk c.in-Down.is c.self.invariant) in
     subst (λ (v : WorldValue). Holds (world_with v)) (ap disk_value (sym c.in-Down.is) ∙ c.self.view_is) holds
