@@ -17,12 +17,12 @@ use Rattle.treefs_format.proofs.Parsed.{Fits, IsByte, joined_read, length-joined
 
 -- Bytes of zeros
 
-blank_at : (ns : List ℕ) (i : ℕ) → IsTrue (blank ns) → get_or ns i 0 ≡ 0
+pub blank_at : (ns : List ℕ) (i : ℕ) → IsTrue (blank ns) → get_or ns i 0 ≡ 0
 blank_at [] i h = refl
 blank_at (n ∷ ns) zero h = eqb-true n 0 (and_parts (n == 0) (blank ns) h).0
 blank_at (n ∷ ns) (suc i) h = blank_at ns i (and_parts (n == 0) (blank ns) h).1
 
-blank_drop : (n : ℕ) (ns : List ℕ) → IsTrue (blank ns) → IsTrue (blank (drop n ns))
+pub blank_drop : (n : ℕ) (ns : List ℕ) → IsTrue (blank ns) → IsTrue (blank (drop n ns))
 blank_drop zero ns h = h
 blank_drop (suc n) [] h = h
 blank_drop (suc n) (x ∷ ns) h = blank_drop n ns (and_parts (x == 0) (blank ns) h).1
@@ -36,7 +36,7 @@ blank_zeros zero = refl
 blank_zeros (suc n) = blank_zeros n
 
 -- no length at byte 4: no record
-no_length : (bytes : List ℕ) → get_or bytes 4 0 ≡ 0 → entries_of bytes ≡ []
+pub no_length : (bytes : List ℕ) → get_or bytes 4 0 ≡ 0 → entries_of bytes ≡ []
 no_length bytes h = entries_none bytes (ap (λ k. nat_lt 0 k && nat_le (5 + k) (length bytes)) h)
 
 pub blank_none : (bytes : List ℕ) → IsTrue (blank bytes) → entries_of bytes ≡ []
