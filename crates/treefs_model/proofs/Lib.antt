@@ -16,3 +16,4 @@ pub mod TableKeeps
 pub mod TableKinds
 pub mod Total
 pub mod Trees
+pub mod Counted

@@ -18,7 +18,7 @@ use Rattle.treefs_format.specs.Records.{entries_of, is_live}
 use Rattle.treefs_format.specs.Templates.{IsTree, inode_pairs, node_pairs, with_type}
 use Rattle.treefs_format.proofs.ForCallers.{blank_at, blank_drop, blank_none, length-words_at, no_length, words_get}
 use Rattle.treefs_model.specs.Tables.{ReadsTypes}
-use Rattle.treefs_model.specs.Trees.{Bucket, NoBucket, OfInode, OfLeaf, bucket_bytes, has_pointer, is_bare, records_at, is_inode_offset, is_node_offset, tree_pointer, tree_shape}
+use Rattle.treefs_model.specs.Trees.{Bucket, NoBucket, OfInode, OfLeaf, bucket_bytes, has_pointer, is_bare, live_count, records_at, is_inode_offset, is_node_offset, tree_pointer, tree_shape}
 
 -- Words that are not 0, each with a type
 
@@ -253,7 +253,7 @@ module _ (T : Types) (node inode : ℕ) (tree : IsTree T node inode) (apart : no
       none t o = bare_pointer node inode t o [] refl
 
 pub bare_records : (buckets : ℕ → Bucket) (n b : ℕ) (m : List ℕ) → IsTrue (is_bare m) → records_at buckets n b m ≡ 0
-bare_records buckets n b m bare = ap (λ es. count_by (λ e. is_live e && (e.number == n)) es) (none (buckets b))
+bare_records buckets n b m bare = ap (live_count n) (none (buckets b))
   where
     none : (k : Bucket) → entries_of (bucket_bytes k m) ≡ []
     none NoBucket = blank_none [] refl

@@ -1,8 +1,9 @@
 -- The blocks of a file system of trees, as the laws of its edits read them.
 --     tree_shape node inode    the pointers of nodes and of inodes, by the two types; all bytes but the first are 0
 --     Bucket, bucket_bytes     what a block is to names: no bucket, the inode of a directory, with its bucket 0, or a leaf of one; the bucket's bytes
+--     counted, live_count      how many live records of a number there are
 --     tree_layout, tree_records    how the table of inodes, records and links are read, where it is known which blocks are buckets
-use Rattle.std.specs.Prelude.{ℕ, ◌==◌, ◌%◌, nat_le, nat_lt, Bool, true, not, ◌&&◌, ◌||◌, List, [], ◌∷◌, drop, map, count_by, bytes_eq, if◌then◌else◌}
+use Rattle.std.specs.Prelude.{ℕ, ◌==◌, ◌%◌, nat_le, nat_lt, Bool, true, cond, not, ◌&&◌, ◌||◌, List, [], ◌∷◌, drop, sum_by, bytes_eq, if◌then◌else◌}
 use Rattle.std.specs.List.{list_any}
 use Rattle.xn_model.specs.Lists.{blank}
 use Rattle.xn_model.specs.Lives.{Lives}
@@ -54,9 +55,17 @@ bucket_bytes OfLeaf m = m
 abbrev pub entries_at : (ℕ → Bucket) → ℕ → List ℕ → List Entry
 entries_at buckets b m = entries_of (bucket_bytes (buckets b) m)
 
--- how many live records of a number a block with these bytes has
+-- 1 for a live record of a number
+abbrev pub counted : ℕ → Entry → ℕ
+counted n e = cond (is_live e && (e.number == n)) 1 0
+
+-- how many live records of a number there are
+abbrev pub live_count : ℕ → List Entry → ℕ
+live_count n entries = sum_by (counted n) entries
+
+-- and in a block with these bytes
 abbrev pub records_at : (ℕ → Bucket) → ℕ → ℕ → List ℕ → ℕ
-records_at buckets n b m = count_by (λ e. is_live e && (e.number == n)) (entries_at buckets b m)
+records_at buckets n b m = live_count n (entries_at buckets b m)
 
 abbrev pub tree_layout : Shape → Lives → ℕ → (ℕ → Bucket) → Layout
 tree_layout S lives top buckets = table_layout S lives top (λ n. steps (leaf_of_inode n)) (records_at buckets) (λ m. (fields_of m).links)

@@ -1,6 +1,6 @@
 // What edits keep in every cut of the lives of a store.
 
-ghost use Rattle.std.specs.Prelude.{◌≡◌, ◌≢◌, ◌⊎◌, ◌∷◌, [], ◌+◌, ◌<◌, ℕ, Bool, List, Some, Result, Ok, Contains, IsTrue};
+ghost use Rattle.std.specs.Prelude.{◌≡◌, ◌≢◌, ◌⊎◌, ◌∷◌, [], ◌+◌, ◌<◌, ℕ, Bool, List, Some, Result, Ok, Contains, IsTrue, ◌^◌, ◌||◌, All, length, bytes_eq};
 ghost use Rattle.xn_model.specs.Types.{Types};
 ghost use Rattle.xn_model.specs.Lives.{BlockState, Life, Lives, StoreState, life_at};
 ghost use Rattle.xn_model.specs.Rules.{IsConsistent};
@@ -10,7 +10,10 @@ ghost use Rattle.ffs_model.specs.Edits.{HoldsOnly};
 ghost use Rattle.xn_model.specs.BareDisks.{zeros};
 ghost use Rattle.treefs_format.specs.Nodes.{node_bytes};
 ghost use Rattle.treefs_format.specs.Templates.{IsTree};
-ghost use Rattle.treefs_model.specs.Trees.{Bucket, is_bare, records_at, tree_pointer, tree_shape};
+ghost use Rattle.xn_model.specs.Lists.{put};
+ghost use Rattle.treefs_format.specs.Buckets.{is_whole, made, rewritten, with_number};
+ghost use Rattle.treefs_format.specs.Records.{Entry, Record, entries_of, records_of};
+ghost use Rattle.treefs_model.specs.Trees.{Bucket, counted, has_name, is_bare, live_count, records_at, tree_pointer, tree_shape};
 ghost use Rattle.treefs_model.specs.Acts.{Act};
 ghost use Rattle.treefs_model.specs.Acts.{Made, Ran};
 ghost use Rattle.xn_model.specs.declared.refusal.Refusal.{Refusal};
@@ -197,4 +200,20 @@ pub fn trees_are_read()
     ensures empty { (buckets : ℕ → Bucket) (n b : ℕ) (m : List ℕ) → IsTrue (is_bare m) → records_at buckets n b m ≡ 0 }
     ensures node { (ty : ℕ) → IsTrue (is_bare (node_bytes ty)) }
     ensures bucket { IsTrue (is_bare (zeros 512)) }
+{}
+
+/// How many live records of a number a bucket has, and whether it has a record of a name, once a record is made, the number of one is set, or the bucket is
+/// rewritten.
+pub fn records_are_counted()
+    ensures made { (bytes : List ℕ) (e : Entry) (n : ℕ) → IsTrue (is_whole bytes) → All (λ b. b < 256) bytes → e.number < 2 ^ 32 → 0 < length e.name →
+        live_count n (entries_of (made bytes e)) ≡ live_count n (entries_of bytes) + counted n e }
+    ensures set { (bytes : List ℕ) (r : Record) (number n : ℕ) → All (λ b. b < 256) bytes → Contains (records_of bytes) r → number < 2 ^ 32 →
+        live_count n (entries_of (with_number bytes r.offset number)) + counted n r.entry
+        ≡ live_count n (entries_of bytes) + counted n (record { number = number; name = r.entry.name }) }
+    ensures rewritten { (bytes : List ℕ) (n : ℕ) → All (λ b. b < 256) bytes →
+        live_count n (entries_of (put bytes 0 (rewritten bytes))) ≡ live_count n (entries_of bytes) }
+    ensures made_names { (bytes name : List ℕ) (e : Entry) → IsTrue (is_whole bytes) → All (λ b. b < 256) bytes → e.number < 2 ^ 32 → 0 < length e.name →
+        has_name (entries_of (made bytes e)) name ≡ (has_name (entries_of bytes) name || bytes_eq e.name name) }
+    ensures set_names { (bytes name : List ℕ) (r : Record) (number : ℕ) → All (λ b. b < 256) bytes → Contains (records_of bytes) r → number < 2 ^ 32 →
+        has_name (entries_of (with_number bytes r.offset number)) name ≡ has_name (entries_of bytes) name }
 {}
