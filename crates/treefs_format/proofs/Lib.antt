@@ -9,3 +9,4 @@ pub mod Loops
 pub mod Puts
 pub mod Changes
 pub mod PathsOfLeaves
+pub mod ForCallers

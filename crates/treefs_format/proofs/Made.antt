@@ -17,12 +17,12 @@ use Rattle.treefs_format.proofs.Parsed.{Fits, IsByte, joined_read, length-joined
 
 -- Bytes of zeros
 
-blank_at : (ns : List ℕ) (i : ℕ) → IsTrue (blank ns) → get_or ns i 0 ≡ 0
+pub blank_at : (ns : List ℕ) (i : ℕ) → IsTrue (blank ns) → get_or ns i 0 ≡ 0
 blank_at [] i h = refl
 blank_at (n ∷ ns) zero h = eqb-true n 0 (and_parts (n == 0) (blank ns) h).0
 blank_at (n ∷ ns) (suc i) h = blank_at ns i (and_parts (n == 0) (blank ns) h).1
 
-blank_drop : (n : ℕ) (ns : List ℕ) → IsTrue (blank ns) → IsTrue (blank (drop n ns))
+pub blank_drop : (n : ℕ) (ns : List ℕ) → IsTrue (blank ns) → IsTrue (blank (drop n ns))
 blank_drop zero ns h = h
 blank_drop (suc n) [] h = h
 blank_drop (suc n) (x ∷ ns) h = blank_drop n ns (and_parts (x == 0) (blank ns) h).1
@@ -36,7 +36,7 @@ blank_zeros zero = refl
 blank_zeros (suc n) = blank_zeros n
 
 -- no length at byte 4: no record
-no_length : (bytes : List ℕ) → get_or bytes 4 0 ≡ 0 → entries_of bytes ≡ []
+pub no_length : (bytes : List ℕ) → get_or bytes 4 0 ≡ 0 → entries_of bytes ≡ []
 no_length bytes h = entries_none bytes (ap (λ k. nat_lt 0 k && nat_le (5 + k) (length bytes)) h)
 
 pub blank_none : (bytes : List ℕ) → IsTrue (blank bytes) → entries_of bytes ≡ []
@@ -120,7 +120,7 @@ split_at (e ∷ es) at r h = elim (Contains-cons (record { offset = at; entry = 
       record { before = e ∷ rest.before; behind = rest.behind; all = ap (λ l. e ∷ l) rest.all; there = omega arith }
 ]
 
-abbrev numbered : Entry → ℕ → Entry
+abbrev pub numbered : Entry → ℕ → Entry
 numbered e number = record { number = number; name = e.name }
 
 -- those behind a place are as they were
@@ -271,3 +271,15 @@ module _ (bytes : List ℕ) (range : All IsByte bytes) where
   rewritten_whole clear =
       whole_rest (put bytes 0 (rewritten bytes)) _ _ rewritten_bucket
       (blank_append (zeros (end_of bytes - total_length (live_entries bytes))) (drop (end_of bytes) bytes) (blank_zeros (end_of bytes - total_length (live_entries bytes))) clear)
+
+-- the entries with a number set: one of them is another
+pub record Renumbered (bytes : List ℕ) (r : Record) (number : ℕ) : Type 0 where
+  pub before : List Entry
+  pub behind : List Entry
+  pub old : entries_of bytes ≡ before ++ r.entry ∷ behind
+  pub new : entries_of (with_number bytes r.offset number) ≡ before ++ numbered r.entry number ∷ behind
+
+pub renumbered_entries : (bytes : List ℕ) (r : Record) (number : ℕ) → All IsByte bytes → Contains (records_of bytes) r → number < 2 ^ 32 → Renumbered bytes r number
+renumbered_entries bytes r number range there few =
+    let s = split bytes r number range there in
+    record { before = s.before; behind = s.behind; old = s.all; new = has_entries (with_number bytes r.offset number) _ _ (renumbered_bucket bytes r number range there few) }

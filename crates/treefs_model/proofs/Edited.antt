@@ -12,11 +12,11 @@ use Rattle.xn_model.specs.declared.refusal.Refusal.{Refusal}
 use Rattle.xn_model.specs.Results.{Gives}
 use Rattle.xn_model.specs.Rules.{IsConsistent}
 use Rattle.xn_model.proofs.ForCallers.{accept, accepted, accepted_other, addable, all_at, each_at, each_back, each_forth, own_then, unless_ok, Contains-cons, Contains-head, Contains-none, Contains-tail}
-use Rattle.xn_model.proofs.Edits.{claimed}
+use Rattle.xn_model.proofs.ForCallers.{claimed}
 use Rattle.ffs_model.specs.Cuts.{Choice, IsCut, IsFullAt, Takes, TakesAny, latest, taken}
 use Rattle.ffs_model.proofs.ForCallers.{proposed}
 use Rattle.ffs_model.proofs.ForCallers.{cut_before, full_before, full_took, takes_before, took_full, took_adds, took_after, proposed_here, proposed_others}
-use Rattle.ffs_model.proofs.Accepted.{more, seen_other, seen_untook, took_full_before}
+use Rattle.ffs_model.proofs.ForCallers.{more, seen_other, seen_untook, took_full_before}
 use Rattle.treefs_model.specs.Acts.{behind_of, edit_in}
 use Rattle.treefs_model.specs.Acts.{Act}
 use Rattle.treefs_model.specs.Edited.{Edited, IsCutBefore, WasPending, system_in, type_at, type_in}

@@ -5,7 +5,7 @@ use Rattle.std.proofs.lemmas.List.{take_all}
 use Rattle.xn_model.specs.Types.{Types}
 use Rattle.xn_model.specs.Lives.{BlockState, Life, Lives, life_at}
 use Rattle.ffs_model.specs.Cuts.{Choice, IsCut, IsFullAt, taken}
-use Rattle.treefs_model.specs.Kept.{KeptFrom}
+use Rattle.ffs_model.specs.Cuts.{KeptFrom}
 use Rattle.treefs_model.specs.Acts.{Act}
 use Rattle.treefs_model.specs.Edited.{Edited, FullBehind}
 use Rattle.treefs_model.specs.Follows.{Follows, KeepsAlong}

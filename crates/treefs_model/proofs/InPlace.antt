@@ -6,7 +6,7 @@ use Rattle.xn_model.specs.Types.{Types}
 use Rattle.xn_model.specs.Lives.{Lives, StoreState}
 use Rattle.xn_model.specs.Rules.{IsConsistent}
 use Rattle.ffs_model.specs.Cuts.{Choice, IsCut, IsFullAt, latest, seen}
-use Rattle.treefs_model.specs.Kept.{KeptFrom}
+use Rattle.ffs_model.specs.Cuts.{KeptFrom}
 use Rattle.ffs_model.proofs.ForCallers.{full_seen}
 use Rattle.treefs_model.specs.Acts.{Act}
 use Rattle.treefs_model.specs.Edited.{Edited, FullBehind, IsOwn, TakesIt, type_at}

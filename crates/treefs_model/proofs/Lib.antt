@@ -15,3 +15,5 @@ pub mod Table
 pub mod TableKeeps
 pub mod TableKinds
 pub mod Total
+pub mod Trees
+pub mod Counted

@@ -5,7 +5,7 @@ use Rattle.xn_model.specs.Types.{Types}
 use Rattle.xn_model.specs.Lives.{Lives, StoreState}
 use Rattle.xn_model.specs.Rules.{IsConsistent}
 use Rattle.ffs_model.specs.Cuts.{Choice, IsCut, IsFullAt, latest, seen}
-use Rattle.treefs_model.specs.Kept.{KeptFrom}
+use Rattle.ffs_model.specs.Cuts.{KeptFrom}
 use Rattle.treefs_model.specs.Edited.{FullBehind, IsOwn}
 use Rattle.treefs_model.specs.Links.{HasRoom, IsLedFull, KeepsLinks, Layout, ReadsSame}
 use Rattle.treefs_model.proofs.Over.{was, was_latest}

@@ -5,9 +5,9 @@ use Rattle.xn_model.specs.Types.{Types}
 use Rattle.xn_model.specs.Lives.{Life, Lives, StoreState, life_at}
 use Rattle.xn_model.specs.Rules.{IsConsistent}
 use Rattle.ffs_model.specs.Cuts.{Choice, IsCut, latest, seen}
-use Rattle.treefs_model.specs.Kept.{KeptFrom}
+use Rattle.ffs_model.specs.Cuts.{KeptFrom}
 use Rattle.ffs_model.proofs.ForCallers.{everything, everything_cut, everything_full, everything_seen, full_seen}
-use Rattle.ffs_model.proofs.Chosen.{seen_chosen}
+use Rattle.ffs_model.proofs.ForCallers.{seen_chosen}
 use Rattle.treefs_model.specs.Edited.{IsOwn, system_in, type_at, type_in}
 
 own_life : (fs : ℕ) (o : Option Life) → system_in o ≡ Some fs → (l : Life) × (o ≡ Some l) × (l.fs ≡ Some fs)

@@ -6,7 +6,7 @@ use Rattle.xn_model.specs.Types.{Types}
 use Rattle.xn_model.specs.Lives.{BlockState, Lives, bytes_of}
 use Rattle.ffs_model.specs.Cuts.{Choice, IsCut, chosen, latest, seen, seen_at}
 use Rattle.ffs_model.specs.Edits.{HoldsOnly}
-use Rattle.ffs_model.proofs.Chosen.{chosen_in}
+use Rattle.ffs_model.proofs.ForCallers.{chosen_in}
 use Rattle.treefs_model.specs.Acts.{Act}
 use Rattle.treefs_model.specs.Edited.{Edited, IsOwn}
 use Rattle.treefs_model.specs.Places.{In, InPlace, IsWait, KeepsPlaces, Shape, pointer_at, with_block}

@@ -9,7 +9,7 @@ use Rattle.xn_model.specs.Lives.{BlockState, Life, Lives, StoreState, life_at, n
 use Rattle.xn_model.specs.Rules.{BelongsTo, IsBy, IsConsistent, NamedIn}
 use Rattle.ffs_model.specs.Cuts.{Choice, IsCut, chosen, latest, seen, seen_at}
 use Rattle.ffs_model.proofs.ForCallers.{everything, everything_full, everything_seen}
-use Rattle.ffs_model.proofs.Chosen.{chosen_in, full_chosen}
+use Rattle.ffs_model.proofs.ForCallers.{chosen_in, full_chosen}
 use Rattle.treefs_model.specs.Edited.{IsOwn, type_in}
 use Rattle.treefs_model.specs.Places.{Shape, at, pointer_at}
 use Rattle.treefs_model.specs.Tables.{IsPointed, ReadsTypes, StaysAt}

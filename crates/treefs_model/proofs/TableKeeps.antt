@@ -7,9 +7,9 @@ use Rattle.xn_model.specs.Types.{Types}
 use Rattle.xn_model.specs.Lives.{Life, Lives, StoreState, bytes_of}
 use Rattle.xn_model.specs.Rules.{IsBy, IsConsistent}
 use Rattle.ffs_model.specs.Cuts.{Choice, IsCut, latest, seen, seen_at}
-use Rattle.treefs_model.specs.Kept.{KeptFrom}
+use Rattle.ffs_model.specs.Cuts.{KeptFrom}
 use Rattle.ffs_model.proofs.ForCallers.{everything, everything_seen, full_seen}
-use Rattle.ffs_model.proofs.Chosen.{chosen_in}
+use Rattle.ffs_model.proofs.ForCallers.{chosen_in}
 use Rattle.treefs_model.specs.Acts.{Act}
 use Rattle.treefs_model.specs.Edited.{Edited, IsOwn, type_at, type_in}
 use Rattle.treefs_model.specs.Places.{Shape, at, pointer_at}

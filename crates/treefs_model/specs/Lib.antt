@@ -3,10 +3,10 @@ pub mod Changes
 pub mod Reading
 pub mod Acts
 pub mod Edited
-pub mod Kept
 pub mod Places
 pub mod Links
 pub mod Tables
 pub mod Follows
 pub mod Led
 pub mod Single
+pub mod Trees

@@ -8,7 +8,7 @@ use Rattle.std.specs.Prelude.{◌≡◌, ◌≢◌, ◌⊎◌, ℕ, zero, suc, �
 use Rattle.xn_model.specs.Lives.{Lives, life_at}
 use Rattle.xn_model.specs.Calls.{life_pending}
 use Rattle.ffs_model.specs.Cuts.{Choice, IsCut, IsFullAt, latest, seen}
-use Rattle.treefs_model.specs.Kept.{KeptFrom}
+use Rattle.ffs_model.specs.Cuts.{KeptFrom}
 use Rattle.treefs_model.specs.Acts.{Act}
 use Rattle.treefs_model.specs.Edited.{FullBehind, IsOwn}
 

@@ -1,12 +1,19 @@
 // What edits keep in every cut of the lives of a store.
 
-ghost use Rattle.std.specs.Prelude.{◌≡◌, ◌≢◌, ◌⊎◌, ◌∷◌, [], ◌+◌, ◌<◌, ℕ, Bool, List, Some, Result, Ok, Contains, IsTrue};
+ghost use Rattle.std.specs.Prelude.{◌≡◌, ◌≢◌, ◌⊎◌, ◌∷◌, [], ◌+◌, ◌<◌, ℕ, Bool, List, Some, Result, Ok, Contains, IsTrue, ◌^◌, ◌||◌, All, length, bytes_eq};
 ghost use Rattle.xn_model.specs.Types.{Types};
 ghost use Rattle.xn_model.specs.Lives.{BlockState, Life, Lives, StoreState, life_at};
 ghost use Rattle.xn_model.specs.Rules.{IsConsistent};
 ghost use Rattle.ffs_model.specs.Cuts.{Choice, IsCut, IsFullAt, latest, seen};
-ghost use Rattle.treefs_model.specs.Kept.{KeptFrom};
+ghost use Rattle.ffs_model.specs.Cuts.{KeptFrom};
 ghost use Rattle.ffs_model.specs.Edits.{HoldsOnly};
+ghost use Rattle.xn_model.specs.BareDisks.{zeros};
+ghost use Rattle.treefs_format.specs.Nodes.{node_bytes};
+ghost use Rattle.treefs_format.specs.Templates.{IsTree};
+ghost use Rattle.xn_model.specs.Lists.{put};
+ghost use Rattle.treefs_format.specs.Buckets.{is_whole, made, rewritten, with_number};
+ghost use Rattle.treefs_format.specs.Records.{Entry, Record, entries_of, records_of};
+ghost use Rattle.treefs_model.specs.Trees.{Bucket, counted, has_name, is_bare, live_count, records_at, tree_pointer, tree_shape};
 ghost use Rattle.treefs_model.specs.Acts.{Act};
 ghost use Rattle.treefs_model.specs.Acts.{Made, Ran};
 ghost use Rattle.xn_model.specs.declared.refusal.Refusal.{Refusal};
@@ -162,7 +169,7 @@ pub fn tables_are_read()
 pub fn names_are_single()
     ensures cuts { (R : Records) (directory : ℕ → ℕ) (lives : Lives) → IsSingle R directory lives → (k : Choice) → IsCut lives k →
         (b c : ℕ) (name : List ℕ) → directory b ≢ 0 →
-        directory b ≡ directory c → IsTrue (R.live (seen lives k b) name) → IsTrue (R.live (seen lives k c) name) → b ≡ c }
+        directory b ≡ directory c → IsTrue (R.live b (seen lives k b) name) → IsTrue (R.live c (seen lives k c) name) → b ≡ c }
     ensures edits { (T : Types) (R : Records) (directory : ℕ → ℕ) (act : Act) (old new : Lives) (number : ℕ) → Edited T act old new number →
         (directory act.block ≡ 0) ⊎ KeepsSingle R directory act old new → IsSingle R directory old → IsSingle R directory new }
     ensures others { (T : Types) (R : Records) (directory directory' : ℕ → ℕ) (fs : ℕ) (old : Lives) (new : StoreState) → IsConsistent T new →
@@ -184,4 +191,29 @@ pub fn begun_blocks_change_nothing()
         ((k : Choice) → IsCut new.lives k → (L.leaf (seen new.lives k) n ≡ L.leaf (seen state.lives k) n) × (L.leaf (seen new.lives k) n ≢ made.0)) →
         L.leaf (latest new.lives) n ≡ L.leaf (latest state.lives) n → ((m : List ℕ) → L.records n made.0 m ≡ 0) → KeepsLinks L N state.lives n →
         KeepsLinks L N new.lives n }
+{}
+
+/// The pointers of nodes and inodes are what the two types own; a block that is bare but for its byte 0 has none, and no record.
+pub fn trees_are_read()
+    ensures pointers { (T : Types) (node inode : ℕ) → IsTree T node inode → node ≢ inode → ReadsTypes T (tree_shape node inode) }
+    ensures bare { (node inode t o : ℕ) (m : List ℕ) → IsTrue (is_bare m) → tree_pointer node inode t m o ≡ 0 }
+    ensures empty { (buckets : ℕ → Bucket) (n b : ℕ) (m : List ℕ) → IsTrue (is_bare m) → records_at buckets n b m ≡ 0 }
+    ensures node { (ty : ℕ) → IsTrue (is_bare (node_bytes ty)) }
+    ensures bucket { IsTrue (is_bare (zeros 512)) }
+{}
+
+/// How many live records of a number a bucket has, and whether it has a record of a name, once a record is made, the number of one is set, or the bucket is
+/// rewritten.
+pub fn records_are_counted()
+    ensures made { (bytes : List ℕ) (e : Entry) (n : ℕ) → IsTrue (is_whole bytes) → All (λ b. b < 256) bytes → e.number < 2 ^ 32 → 0 < length e.name →
+        live_count n (entries_of (made bytes e)) ≡ live_count n (entries_of bytes) + counted n e }
+    ensures set { (bytes : List ℕ) (r : Record) (number n : ℕ) → All (λ b. b < 256) bytes → Contains (records_of bytes) r → number < 2 ^ 32 →
+        live_count n (entries_of (with_number bytes r.offset number)) + counted n r.entry
+        ≡ live_count n (entries_of bytes) + counted n (record { number = number; name = r.entry.name }) }
+    ensures rewritten { (bytes : List ℕ) (n : ℕ) → All (λ b. b < 256) bytes →
+        live_count n (entries_of (put bytes 0 (rewritten bytes))) ≡ live_count n (entries_of bytes) }
+    ensures made_names { (bytes name : List ℕ) (e : Entry) → IsTrue (is_whole bytes) → All (λ b. b < 256) bytes → e.number < 2 ^ 32 → 0 < length e.name →
+        has_name (entries_of (made bytes e)) name ≡ (has_name (entries_of bytes) name || bytes_eq e.name name) }
+    ensures set_names { (bytes name : List ℕ) (r : Record) (number : ℕ) → All (λ b. b < 256) bytes → Contains (records_of bytes) r → number < 2 ^ 32 →
+        has_name (entries_of (with_number bytes r.offset number)) name ≡ has_name (entries_of bytes) name }
 {}
