@@ -1,25 +1,33 @@
-"""Compares the numbers of a document's tables with the code, for `tools/documents`.
+"""Compares the numbers of the tables of two documents with the code, for `tools/documents`.
 
-- In a table whose last column is headed `Code`, the last cell of a row quotes a piece of code and its crate, as `const SIZE: usize = 4;` (ffs_format): it stands
-  in that crate, and the number of the row's first cell stands in it. Where it has an array of bytes, the row has these bytes, two digits each. `-` quotes none.
-- In a table that begins with the columns `Offset` and `Bytes`, each row begins where the one before it ends, as far as both are plain numbers.
-- In a dump, the lines of the three templates of the library file system have the bytes of their arrays in `ffs_format`.
+`document_numbers.txt` says what each number of a table is. Its section `quotes` names numbers of the code: the crate, and a piece of its source or of its
+definitions in which `#` stands for the number. Each other section has a table's document and the heading above it, and a line for each of the table's rows
+with what its numbers are, in their order, parted by semicolons; `-` is a row without numbers. A word that has a digit, as `LD1`, is one of them.
+
+- A row has exactly these numbers, and each table of the two documents has its section.
+- Where the last column of a table is headed `Code`, its cell quotes a piece of code and its crate, as `const SIZE: usize = 4;` (ffs_format), which stands in
+  that crate; `-` quotes none.
+- The dump of the small disk has the bytes that the numbers of the code and the arrays of the templates in `ffs_format` give (`small_disk.py`).
 """
 
+import os
+import random
 import re
 
-NUMBER = re.compile(r"(?<![\w.])(0x[0-9a-f]+|[0-9][0-9_]*)(?![\w.])")
+from small_disk import SmallDisk
+
+TOP = os.path.dirname(os.path.dirname(os.path.abspath(__file__)))
+BOUND = "tools/document_numbers.txt"
 QUOTED = re.compile(r"^`([^`]+)` \((\w+)\)$")
+# A word with a digit in it, and with the commas that part its thousands.
+NUMBER = re.compile(r"\w*[0-9]\w*(?:,[0-9]{3}(?![0-9]))*")
+PLAIN = re.compile(r"0x[0-9a-f]+|[0-9][0-9_,]*")
 DUMPED = re.compile(r"^([0-9a-f]{6})((?: [0-9a-f]{2}){16})$")
-ARRAY = r"(?s)const {}: \[u8; \d+\] = \[(.*?)\];"
-# The arrays of the templates, by the places at which their blocks begin in a dump.
-TEMPLATES = {0x200: "ROOT", 0x400: "INODES", 0x600: "POINTERS"}
 
 
 def value(text):
-    """The number that a cell is, if it is one."""
-    found = NUMBER.fullmatch(text.strip())
-    return int(found[1].replace("_", ""), 0) if found else None
+    """The number that a word is, or the word itself."""
+    return int(re.sub("[_,]", "", text), 16 if text.startswith("0x") else 10) if PLAIN.fullmatch(text) else text
 
 
 def cells(line):
@@ -27,77 +35,149 @@ def cells(line):
     return [it.strip() for it in re.split(r"\|(?=(?:[^`]*`[^`]*`)*[^`]*$)", line.strip())[1:-1]]
 
 
-def rows(text):
-    """Each row of each table, as its line's number, the heads of the columns, and its cells."""
-    heads = None
+def tables(text):
+    """Each table, as the heading above it, whether it has a column of code, and its rows, each with its line's number and its cells."""
+    found, heading, inside = [], None, False
     for number, line in enumerate(text.splitlines(), 1):
-        if not line.startswith("|"):
-            heads = None
-        elif heads is None:
-            heads = cells(line)
-        elif not re.fullmatch(r"[|\s:-]+", line):
-            yield number, heads, cells(line)
+        if line.startswith("#"):
+            heading = line.lstrip("# ")
+        if line.startswith("|") and not inside:
+            found.append((heading, cells(line)[-1] == "Code", []))
+        elif line.startswith("|") and not re.fullmatch(r"[|\s:-]+", line):
+            found[-1][2].append((number, cells(line)))
+        inside = line.startswith("|")
+    return found
 
 
-def bytes_of(code):
-    """The bytes of the array that a piece of code has, as they stand in a dump."""
-    found = re.search(r"\[(0x[0-9a-f]{2}(?:, 0x[0-9a-f]{2})*)\]", code)
-    return found[1].replace("0x", "").replace(", ", " ") if found else None
+def sections():
+    """The sections of what is bound: their names, each with its lines."""
+    found = []
+    with open(os.path.join(TOP, BOUND), encoding="utf-8") as file:
+        for line in file.read().splitlines():
+            if line.startswith("["):
+                found.append((line.strip("[]"), []))
+            elif line and not line.startswith("#"):
+                found[-1][1].append(line)
+    return found
 
 
-def quoted_faults(source_of, row):
-    """What is wrong with a row that quotes code."""
-    if row[-1] == "-":
-        return
-    found = QUOTED.match(row[-1])
-    if not found:
-        yield f"`{row[-1]}` quotes no code of a crate"
-        return
-    code, crate = found.groups()
-    source = source_of(crate)
-    if code not in source:
-        yield f"{crate} has no such code: {code}"
-    elif bytes_of(code):
-        if bytes_of(code) not in " ".join(row[:-1]):
-            yield f"{crate} has other bytes: {code}"
-    elif value(row[0]) not in {value(it) for it in NUMBER.findall(code)}:
-        yield f"{crate} has another number than {row[0]}: {code}"
+def quoted(source, code):
+    """The number, or the bytes, for which a piece of code stands; None where the source hasn't the code, or has it with several numbers."""
+    pattern = re.escape(code).replace(r"\#\#", "([0-9a-fx, ]+)").replace(r"\#", "(0x[0-9a-f]+|[0-9][0-9_]*)")
+    found = set(re.findall(pattern, source))
+    if len(found) != 1:
+        return None
+    text = found.pop()
+    return bytes(value(it) for it in text.split(", ")) if "##" in code else value(text)
 
 
-def table_faults(source_of, text):
-    """What is wrong with the tables of a document."""
-    end = None
-    for number, heads, row in rows(text):
-        if heads[-1] == "Code":
-            yield from ((number, it) for it in quoted_faults(source_of, row))
-        if heads[:2] != ["Offset", "Bytes"]:
-            end = None
-            continue
-        at, length = value(row[0]), value(row[1])
-        if value(row[0]) == 0:
-            end = 0
-        if None not in (at, end) and at != end:
-            yield number, f"the row before ends at {end}, and this one begins at {at}"
-        end = at + length if None not in (at, length) else None
+# What an expression may call, beside the numbers of the code and the small disk.
+WORDS = {
+    "len": len,
+    "used": lambda code: int.from_bytes(code[2:], "little"),
+    "spelled": lambda code: code.hex(" ").split(),
+    "letters": lambda code: code.decode(),
+    "hexadecimal": lambda number: f"{number:x}",
+    "line": lambda number: f"{number:06x}",
+    "load": lambda count: f"LD{count}",
+    "power": lambda number: [2, number.bit_length() - 1] if number & (number - 1) == 0 else number,
+}
 
 
-def dump_faults(source_of, text):
-    """What is wrong with the templates in a dump."""
-    source = source_of("ffs_format")
-    for number, line in enumerate(text.splitlines(), 1):
-        found = DUMPED.match(line)
+class Numbers:
+    """The numbers of the code by their names, and what each number of a table is of them."""
+
+    def __init__(self, source_of):
+        self.source_of, self.names, self.bound, self.faults = source_of, dict(WORDS), {}, []
+        for name, lines in sections():
+            if name == "quotes":
+                self.read_quotes(lines)
+            else:
+                document, _, heading = name.partition(": ")
+                self.bound.setdefault(document, []).append((heading, lines))
+
+    def read_quotes(self, lines):
+        for line in lines:
+            name, crate, code = line.split(None, 2)
+            self.names[name] = quoted(self.source_of(crate), code)
+            if self.names[name] is None:
+                self.faults.append(f"{crate} has no number, or more than one, in place of # in: {code}")
+
+    def of(self, line):
+        """The numbers that a row has to have."""
+        found = []
+        for expression in line.split("; ") if line != "-" else ():
+            number = eval(expression, {"__builtins__": {}}, self.names)
+            found += [value(it) if isinstance(it, str) else it for it in (number if isinstance(number, list) else [number])]
+        return found
+
+    def row_faults(self, row, line):
+        """What is wrong with the numbers of a row. The cell of code isn't among its cells."""
+        found = [value(it) for cell in row for it in NUMBER.findall(cell)]
+        wanted = self.of(line)
+        if len(found) != len(wanted):
+            yield f"{len(found)} numbers stand here, and {BOUND} says of {len(wanted)} what they are: {line}"
+        yield from (f"{one} stands here, and it is {other} by the code" for one, other in zip(found, wanted) if one != other)
+
+    def table_faults(self, document, text):
+        """What is wrong with the tables of a document."""
+        found, bound = tables(text), self.bound[document]
+        if [(heading, len(rows)) for heading, _, rows in found] != [(heading, len(lines)) for heading, lines in bound]:
+            yield 1, f"{document} has other tables, or other counts of rows, than {BOUND}"
+        for (_, has_code, rows), (_, lines) in zip(found, bound):
+            for (number, row), line in zip(rows, lines):
+                yield from ((number, it) for it in self.row_faults(row[:-1] if has_code else row, line))
+                if has_code:
+                    yield from ((number, it) for it in self.code_faults(row[-1]))
+
+    def code_faults(self, cell):
+        """What is wrong with a cell that quotes code."""
+        quotes = QUOTED.match(cell)
+        if cell != "-" and not quotes:
+            yield f"`{cell}` quotes no code of a crate"
+        elif quotes and quotes[1] not in self.source_of(quotes[2]):
+            yield f"{quotes[2]} has no such code: {quotes[1]}"
+
+    def dump_faults(self, text):
+        """What is wrong with the dump of a document, if it has one."""
+        found = [(number, line) for number, line in enumerate(text.splitlines(), 1) if DUMPED.match(line)]
         if not found:
+            return
+        wanted = self.names["disk"].dump()
+        for (number, line), other in zip(found, wanted):
+            if line != other:
+                yield number, f"the disk has {other}"
+        if len(found) != len(wanted):
+            yield found[-1][0], f"{len(found)} lines stand here, and the disk has {len(wanted)}"
+
+    def of_document(self, document, text):
+        """Each fault of a document, with its line."""
+        if self.faults:
+            return [(1, it) for it in self.faults]
+        if re.search(DUMPED.pattern, text, re.M):
+            self.names["disk"] = SmallDisk(self.names, self.source_of("ffs_format"), text)
+        return [*self.table_faults(document, text), *self.dump_faults(text)]
+
+
+def with_other_numbers(text, chance):
+    """The text with each number of its tables and of its dump changed, one at a time, with the line that has it and what stands there then."""
+    lines = text.splitlines()
+    for at, line in enumerate(lines):
+        if not line.startswith("|") and not DUMPED.match(line):
             continue
-        at, given = int(found[1], 16), bytes.fromhex(found[2])
-        for start, name in TEMPLATES.items():
-            if start <= at < start + 512:
-                text_of = re.sub(r"//.*", "", re.search(ARRAY.format(name), source)[1])
-                array = bytes(int(it, 16) for it in re.findall(r"0x[0-9a-f]{2}", text_of)).ljust(512, b"\0")
-                if array[at - start : at - start + 16] != given:
-                    yield number, f"{name} of ffs_format has other bytes there"
+        for found in re.finditer("[0-9]+", line):
+            other = found[0]
+            while int(other) == int(found[0]):
+                other = "".join(chance.choice("0123456789") for _ in found[0])
+            changed = f"{line[:found.start()]}{other}{line[found.end():]}"
+            yield at + 1, changed, "\n".join([*lines[:at], changed, *lines[at + 1 :]])
 
 
-def faults(source_of, text):
-    """Each fault, with its line. `source_of` answers the code of a crate."""
-    yield from table_faults(source_of, text)
-    yield from dump_faults(source_of, text)
+def tried(numbers, document, text, seed):
+    """How many numbers of a document were changed, and the changes of which no fault of their line was told."""
+    count, missed = 0, []
+    for line, changed, other in with_other_numbers(text, random.Random(seed)):
+        count += 1
+        if line not in (number for number, _ in numbers.of_document(document, other)):
+            missed.append((line, changed))
+    return count, missed

@@ -1,11 +1,12 @@
 """Kills runs of `xnfs`, and looks at what they leave.
 
-A run is a random line or a random shell, also a lazy one, on a disk that the runs before it have filled. It is killed after a random part of the time
-that such runs take, or ends before; this goes on until KILLS (1,000) were killed. Then each of STOPPED (30) further runs ends by `--stop K` before its block
-write K + 1, for each K up to all of its writes. Each time the disk has to be sound by `xnsim check`, its names good, and each file whole: of the lines that
-have answered all is there, of a lazy shell up to its last `sync` that has; what the next line does may be there or not. Now and then the disk is repaired,
-which has to change no name and no file, and to leave nothing to repair, and no inode in use without a name. A fresh disk is made for every fifty runs.
-Every second one is crowded: it has three blocks of inodes and two of names in a folder, and most of its runs are lazy shells.
+A run is a random line or a random shell, also a lazy one, on a disk that the runs before it have filled. It is killed after a random part of the time that such
+runs take, or ends before; this goes on until KILLS (1,000) were killed. Then each of STOPPED (30) further runs ends by `--stop K` before its block write K + 1,
+for each K up to all of its writes. Each time the disk has to be sound by `xnsim check`, its names good, and each file whole: of the lines that have answered
+all is there, of a lazy shell up to its last `sync` that has; what the next line does may be there or not. Now and then the disk is repaired, which has to
+change no name and no file, and to leave nothing to repair, and no inode in use without a name. A fresh disk is made for every fifty runs that may be killed,
+and for every five that are stopped. Every second one is crowded: it has three blocks of inodes and two of names in a folder, and most of its runs are lazy
+shells.
 """
 
 import collections

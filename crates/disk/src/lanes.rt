@@ -1,5 +1,5 @@
 ghost use Rattle.std.specs.Prelude.{◌≡◌, ◌≢◌, ℕ, ◌+◌, ◌^◌, ◌<◌, ◌≤◌, List, length, replicate, Option, Some, None, IfOk, OnOk, OnErr, IfErr, IsOk, ◌↔◌};
-ghost use Rattle.std.specs.Prelude.{slice_get, slice_set, IfSome, option_copied};
+ghost use Rattle.std.specs.Prelude.{slice_get, slice_set, IfSome, option_copied, []};
 ghost use Rattle.disk.specs.Lanes.{AreLanes};
 
 use crate::lane::Lane;
@@ -41,6 +41,15 @@ impl<L: Lane> Lanes<L> {
             places.push_reserved(None);
         }
         Ok(Lanes { places })
+    }
+
+    /// The lanes of a disk without blocks.
+    pub fn none(alloc: Global) -> Lanes<L>
+        ensures { result ≡ [] }
+    {
+        Lanes {
+            places: Vec::new(alloc),
+        }
     }
 
     /// The lanes in these places.

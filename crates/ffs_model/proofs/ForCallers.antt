@@ -1,8 +1,8 @@
 -- What crates above cite in their proofs, by subject. They import no other module of these proofs.
 
 -- cuts and what is reached
-pub use Rattle.ffs_model.proofs.Chosen.{everything, everything_cut, everything_full, everything_seen, everything_taken, full_seen}
-pub use Rattle.ffs_model.proofs.Accepted.{cut_before, full_before, full_took, takes_before, takes_took, took_adds, took_after, took_full, took_now}
+pub use Rattle.ffs_model.proofs.Chosen.{chosen_in, everything, everything_cut, everything_full, everything_seen, everything_taken, full_chosen, full_seen, seen_chosen}
+pub use Rattle.ffs_model.proofs.Accepted.{cut_before, full_before, full_took, more, seen_other, seen_untook, takes_before, takes_took, took_adds, took_after, took_full, took_full_before, took_now}
 pub use Rattle.ffs_model.proofs.Foreign.{start_cut, takes_then}
 pub use Rattle.ffs_model.proofs.Same.{under_direct, under_inodes}
 pub use Rattle.ffs_model.proofs.Newest.{data_owned, indirect_owned, indirect_reached, one_type, proposed_here, proposed_others, rooted_here, rooted_others, started_here, started_others}

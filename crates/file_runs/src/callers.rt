@@ -5,6 +5,7 @@ use shared::{Held, Locked};
 use std::alloc::Global;
 use std::sync::Wait;
 use volume_pair::{Action, Answer, Disk, Files, Open};
+use xn_state::Store;
 
 /// One who makes calls of the volumes on a store.
 pub trait Caller {

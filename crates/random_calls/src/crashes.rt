@@ -7,7 +7,7 @@ use crash_check::{ImageFault, mount};
 use disk::{Lanes, MemLane};
 use std::alloc::{AllocError, Global};
 use std::thread::Threads;
-use xn_kernel::{Fs, Kernel, Refusal};
+use xn_kernel::{Fs, Kernel, Refusal, Store};
 
 /// Which open writes a crash keeps.
 #[derive(Clone, Copy)]

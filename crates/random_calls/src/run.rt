@@ -11,7 +11,7 @@ use crate::writes::Write;
 use disk::MemLane;
 use pseudo_random::Numbers;
 use std::alloc::{AllocError, Global};
-use xn_kernel::{EditId, Fs, Kernel, Refusal};
+use xn_kernel::{EditId, Fs, Kernel, Refusal, Store};
 
 /// How many file systems make calls.
 const SYSTEMS: u16 = 8;

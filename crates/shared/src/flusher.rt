@@ -77,7 +77,7 @@ impl<'a, L: Lane, G: Gate, K: Naming> Flusher<'a, Hub<L, K>, G> {
     {
         let mut hub = self.shared.lock(rt);
         hub.is_sound();
-        let block = hub.pick()?;
+        let block = hub.kernel().pick()?;
         let Ok(ticket) = hub.begin(block) else {
             unreachable!()
         };

@@ -20,7 +20,7 @@ use durable_floor::{Floor, Naming, Publisher, Reader};
 use std::alloc::Global;
 use std::marker::{Model, PhantomData};
 use std::sync::Arc;
-use xn_kernel::{DrainStop, FlushStop, Fs, Kernel, Landed, Refusal, Ticket};
+use xn_kernel::{DrainStop, FlushStop, Fs, Kernel, Landed, Refusal, Store, Ticket};
 
 mod calls;
 mod store;
@@ -87,6 +87,13 @@ impl<L: Lane, K: Naming> Hub<L, K> {
             floor,
             of: PhantomData,
         }
+    }
+
+    /// The kernel, to be asked: what would change it passes the words by.
+    pub fn kernel(&self) -> &Kernel<L>
+        ensures { result.now ≡ self.now.kernel }
+    {
+        &self.kernel
     }
 
     /// The kernel alone.

@@ -14,7 +14,7 @@ use std::marker::Brand;
 use std::process::Abort;
 use std::sync::Wait;
 use std::test::*;
-use xn_kernel::{Answer, Call, EditId, Fs, Kernel, Refusal};
+use xn_kernel::{Answer, Call, EditId, Fs, Kernel, Refusal, Store};
 
 /// Starts block 1 and roots it.
 fn start<L: Lane, K: Naming>(

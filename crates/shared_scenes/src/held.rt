@@ -16,7 +16,7 @@ use std::sync::{Arc, Wait};
 use std::test::*;
 use std::thread::{Threads, join};
 use std::time::Clock;
-use xn_kernel::{Edit, EditId, Fs, Kernel};
+use xn_kernel::{Edit, EditId, Fs, Kernel, Store};
 
 /// Lanes whose writes hold, or their syncs.
 fn held_lanes<R: Clock + Drop>(

@@ -17,7 +17,7 @@ use std::sync::Wait;
 use std::test::*;
 use std::thread;
 use std::thread::{Threads, join};
-use xn_kernel::{Edit, Fs, Kernel, Patch, Refusal};
+use xn_kernel::{Edit, Fs, Kernel, Patch, Refusal, Store};
 
 /// How many file systems have a worker.
 const SYSTEMS: u8 = 8;

@@ -11,7 +11,7 @@ use std::alloc::{AllocError, Global};
 use std::process::Abort;
 use std::sync::{Arc, Wait};
 use std::test::*;
-use xn_kernel::{EditId, Kernel, Landed, Refusal, Ticket};
+use xn_kernel::{EditId, Kernel, Landed, Refusal, Store, Ticket};
 
 /// A kernel that threads may share, with a floor that nobody has raised.
 pub fn share<L: Lane + Drop, G: Gate + Drop, K: Naming>(

@@ -39,11 +39,11 @@ fn ends_by_hand<L: Lane + Drop, G: Gate, K: Naming, R: Wait>(
     shared: &Shared<L, G, K>,
     ticket: Ticket<L>,
 ) -> Option<Landed> {
-    let away = shared.with(rt, |hub| hub.lane(1).is_none());
+    let away = shared.with(rt, |hub| hub.kernel().lane(1).is_none());
     let (_landed, back) = finish(rt, shared, ticket);
     let (ticket, refusal) = back?;
     let landed = sync_and_finish(rt, shared, ticket)?;
-    let home = shared.with(rt, |hub| hub.lane(1).is_some());
+    let home = shared.with(rt, |hub| hub.kernel().lane(1).is_some());
     if away && refusal == Refusal::NotSynced && home {
         Some(landed)
     } else {

@@ -87,7 +87,7 @@ fn make(alloc: Global, store: &mut Running, fs: Fs, change: Change) -> Result<()
 /// Writes all that is pending, in at most so many steps; whether they were enough.
 fn write(store: &mut Running, steps: &mut u32) -> bool {
     for _ in 0..MOST_WRITES {
-        let Some(block) = store.pick() else {
+        let Some(block) = store.kernel().pick() else {
             return true;
         };
         for event in [

@@ -10,7 +10,7 @@ use std::alloc::Global;
 use std::sync::Arc;
 use std::sync::atomic::{AtomicU64, Ordering};
 use std::test::Fail;
-use xn_kernel::{EditId, FlushStop, Kernel};
+use xn_kernel::{EditId, FlushStop, Kernel, Store};
 
 /// A lane in memory. All lanes of a disk have one count of writes, syncs and reads, and each keeps at which of them its own came last.
 #[derive(Drop)]

@@ -6,7 +6,7 @@ use disk::{Lane, Lanes, MemLane, PlanLane};
 use std::alloc::Global;
 use std::test::Fail;
 use std::thread::Threads;
-use xn_kernel::{DrainStop, EditId, Fs, Kernel, Landed, Refusal, Ticket};
+use xn_kernel::{DrainStop, EditId, Fs, Kernel, Landed, Refusal, Store, Ticket};
 
 // These functions have no contracts, so that the proofs of the tests stay short.
 

@@ -7,7 +7,7 @@ use disk::MemLane;
 use std::alloc::{AllocError, Global};
 use std::test::Fail;
 use std::thread::Threads;
-use xn_kernel::{Edit, Fs, Kernel, Landed, Patch, Refusal, Ticket};
+use xn_kernel::{Edit, Fs, Kernel, Landed, Patch, Refusal, Store, Ticket};
 
 /// What the finish of a write with one entry does.
 const ONE_DURABLE: Landed = Landed {

@@ -11,9 +11,6 @@ pub trait Disk: Store {
     fn drain(&mut self, fs: Fs) -> Option<u32>
         ensures { Stays (Self.types_of self.old) (Self.state_of self.old) (Self.types_of self.new) (Self.state_of self.new) };
 
-    /// The least pending entry of a file system, or the next number to be given.
-    fn floor(&self, fs: Fs) -> u64;
-
     /// How many blocks are free.
     fn free(&self) -> u32;
 }
@@ -33,11 +30,7 @@ impl Disk for Running {
         writes_of(self.step(&event))
     }
 
-    fn floor(&self, fs: Fs) -> u64 {
-        Running::floor(self, fs)
-    }
-
     fn free(&self) -> u32 {
-        Running::free(self)
+        self.kernel().free()
     }
 }

@@ -138,6 +138,8 @@ impl<S: Disk> Store for Guarded<S> {
 
     ghost state_of = { S.state_of };
 
+    ghost with_state = { S.with_state };
+
     fn init(&mut self, fs: Fs, ty: u32, bytes: &[u8; 512]) -> Result<(u32, EditId), Refusal> {
         self.store.init(fs, ty, bytes)
     }
@@ -168,22 +170,30 @@ impl<S: Disk> Store for Guarded<S> {
         self.store.template(ty)
     }
 
+    fn kind(&self, fs: Fs, block: u32) -> Result<u32, Refusal> {
+        self.store.kind(fs, block)
+    }
+
     fn pending(&self, fs: Fs) -> u32 {
         self.store.pending(fs)
     }
 
-    fn kind(&self, fs: Fs, block: u32) -> Result<u32, Refusal> {
-        self.store.kind(fs, block)
+    fn pending_in(&self, block: u32) -> u32 {
+        self.store.pending_in(block)
+    }
+
+    fn newest_entry(&self, block: u32) -> Option<EditId> {
+        self.store.newest_entry(block)
+    }
+
+    fn floor(&self, fs: Fs) -> u64 {
+        self.store.floor(fs)
     }
 }
 
 impl<S: Disk> Disk for Guarded<S> {
     fn drain(&mut self, fs: Fs) -> Option<u32> {
         self.store.drain(fs)
-    }
-
-    fn floor(&self, fs: Fs) -> u64 {
-        self.store.floor(fs)
     }
 
     fn free(&self) -> u32 {
@@ -223,6 +233,6 @@ impl Guarded<Running> {
 
     /// The least block that may be written.
     pub fn pick(&self) -> Option<u32> {
-        self.store.pick()
+        self.store.kernel().pick()
     }
 }

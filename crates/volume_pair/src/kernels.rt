@@ -45,10 +45,6 @@ impl Disk for Kernel<MemLane> {
         writes_of(drained)
     }
 
-    fn floor(&self, fs: Fs) -> u64 {
-        Kernel::floor(self, fs)
-    }
-
     fn free(&self) -> u32 {
         Kernel::free(self)
     }

@@ -36,12 +36,8 @@ impl<K: Naming> Disk for Hub<MemLane, K> {
         writes_of(drained)
     }
 
-    fn floor(&self, fs: Fs) -> u64 {
-        Hub::floor(self, fs)
-    }
-
     fn free(&self) -> u32 {
-        Hub::free(self)
+        self.kernel().free()
     }
 }
 

@@ -8,22 +8,18 @@ use Rattle.xn_model.specs.Mounts.{recovered}
 use Rattle.xn_model.specs.Worlds.{mounted_state}
 use Rattle.templates.specs.Language.{types_of_image}
 use Rattle.xn_kernel.specs.Kernels.{is_in_flight}
-use Rattle.world.specs.Worlds.{is_any_in_flight, world_value, IsSoundDisk, IsWorldOf}
+use Rattle.world.specs.Worlds.{is_any_in_flight, IsSoundDisk}
 use Rattle.world.proofs.Mounting.{sound_recovers}
 
 calm : (o : Option Life) → ((l : Life) → o ≡ Some l → l.begun ≡ None) → alive_and (λ l. is_some l.begun) o ≡ false
 calm None idle = refl
 calm (Some l) idle = ap is_some (idle l refl)
 
-down_is_calm : (image : List (List ℕ)) (b : ℕ) → IsSoundDisk image → is_in_flight (mounted_state (recovered (types_of_image image) image)) b ≡ false
+pub down_is_calm : (image : List (List ℕ)) (b : ℕ) → IsSoundDisk image → is_in_flight (mounted_state (recovered (types_of_image image) image)) b ≡ false
 down_is_calm image b disk =
     let lives = recovered (types_of_image image) image in
     let recovers = sound_recovers image disk in
     calm (life_at lives b) (λ l here. (recovers.only b l here).idle)
-
-pub unmounted_is_calm : (unmounted : Option (List (List ℕ))) (b : ℕ) → IsWorldOf None unmounted → is_in_flight (world_value None unmounted).state b ≡ false
-unmounted_is_calm None b none = absurd none
-unmounted_is_calm (Some image) b disk = down_is_calm image b disk
 
 pub one_busy : (lives : Lives) (b : ℕ) → alive_and (λ l. is_some l.begun) (life_at lives b) ≡ true → list_any (alive_and (λ l. is_some l.begun)) lives ≡ true
 one_busy [] b busy = absurd (false≢true busy)
@@ -34,10 +30,5 @@ pub none_busy : (lives : Lives) → ((b : ℕ) → b < length lives → alive_an
 none_busy [] calm = refl
 none_busy (o ∷ os) calm = or_from (alive_and (λ l. is_some l.begun) o) (list_any (alive_and (λ l. is_some l.begun)) os) (calm 0 (omega arith)) (none_busy os (λ b lt. calm (suc b) (omega arith)))
 
-pub unmounted_is_idle : (unmounted : Option (List (List ℕ))) → IsWorldOf None unmounted → is_any_in_flight (world_value None unmounted).state ≡ false
-unmounted_is_idle unmounted is = none_busy (world_value None unmounted).state.lives (λ b lt. unmounted_is_calm unmounted b is)
-
--- a world without a mounted disk is down
-pub unmounted_is_down : (unmounted : Option (List (List ℕ))) → (world_value None unmounted).down ≡ true
-unmounted_is_down None = refl
-unmounted_is_down (Some image) = refl
+pub down_is_idle : (image : List (List ℕ)) → IsSoundDisk image → is_any_in_flight (mounted_state (recovered (types_of_image image) image)) ≡ false
+down_is_idle image disk = none_busy (recovered (types_of_image image) image) (λ b lt. down_is_calm image b disk)

@@ -1,6 +1,5 @@
 -- What a crash leaves, and a world that is down.
 use Rattle.std.proofs.Common.{◌≡◌, ◌∙◌, ◌<◌, zero, suc, [], ◌∷◌, arith, List, length, Option, Some, None, refl, sym, ap, inl, inr, subst, ℕ}
-use Rattle.std.proofs.lemmas.Option.{none-some}
 use Rattle.xn_model.specs.Images.{block_of}
 use Rattle.xn_model.specs.Mounts.{recovered}
 use Rattle.xn_model.specs.Worlds.{Down, given_at, none_given, left_at, left, mount_reply, AfterCrash}
@@ -11,7 +10,7 @@ use Rattle.std.proofs.lemmas.Bool.{cond_both}
 use Rattle.std.proofs.lemmas.List.{ext_get_or}
 use Rattle.std.proofs.lemmas.List.FromFn.{get_or-map-range_with_len, length-map-range_with_len}
 use Rattle.templates.specs.Language.{types_of_image}
-use Rattle.world.specs.Worlds.{WorldValue, world_with, world_value, mounted_value, down_value, IsSoundDisk, IsWorldOf}
+use Rattle.world.specs.Worlds.{WorldValue, world_with, mounted_value, down_value, IsSoundDisk}
 use Rattle.world.proofs.Mounting.{mounted_holds, sound_recovers}
 
 -- the mount is that of the image that is left, under the types of its own catalogue
@@ -30,11 +29,6 @@ module _ (value : WorldValue) (kept : List ℕ) (disk : IsSoundDisk (left (world
 pub down_holds : (image : List (List ℕ)) → IsSoundDisk image → Holds (world_with (down_value image))
 down_holds image disk = let h = mounted_holds image disk in
     record { state = h.state; count = h.count; settled_count = h.settled_count; given_count = h.given_count; placed = h.placed; newest = h.newest; unsynced = h.unsynced }
-
-pub down_rules : (mounted : Option WorldValue) (unmounted : Option (List (List ℕ))) → IsWorldOf mounted unmounted → mounted ≡ None → Holds (world_with (world_value mounted unmounted))
-down_rules (Some value) unmounted is none = absurd (none-some value (sym none))
-down_rules None (Some image) is none = down_holds image is
-down_rules None None is none = absurd is
 
 -- of a disk at rest that is its image
 pub rests_left : (image : List (List ℕ)) (kept : List ℕ) → left (world_with (down_value image)) kept ≡ image

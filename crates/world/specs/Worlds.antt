@@ -78,16 +78,5 @@ mounted_value image = record {
 abbrev pub down_value : List (List ℕ) → WorldValue
 down_value image = record (mounted_value image) { down = true }
 
-abbrev pub world_value : Option WorldValue → Option (List (List ℕ)) → WorldValue
-world_value (Some value) rest = value
-world_value None (Some image) = down_value image
-world_value None None = down_value []
-
 abbrev pub IsSoundDisk : List (List ℕ) → Type 0
 IsSoundDisk image = IsSound (types_of_image image) (length image) (block_of image)
-
--- a world has a mounted disk, or, while it is down, one that is not mounted, and sound
-abbrev pub IsWorldOf : Option WorldValue → Option (List (List ℕ)) → Type 0
-IsWorldOf (Some value) rest = ⊤
-IsWorldOf None (Some image) = IsSoundDisk image
-IsWorldOf None None = ⊥

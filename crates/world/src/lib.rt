@@ -3,7 +3,6 @@
 #![tactic(auto)]
 
 pub mod law;
-mod mounted;
 mod running;
 mod ticket;
 mod tickets;

@@ -1,71 +1,88 @@
-// A world that is up, as a store.
+// A world that is up: a disk with its kernel, as a store.
 
-ghost use Rattle.std.specs.Prelude.{◌≡◌, ◌≢◌, IfOk};
+ghost use Rattle.std.specs.Prelude.{◌≡◌, ◌≢◌, ◌<◌, ◌-◌, length, IfOk, OnOk, false};
+ghost use Rattle.std.specs.Io.KnownBytes.{Appends};
 ghost use Rattle.xn_model.specs.Images.{block_of, joined};
-ghost use Rattle.xn_model.specs.Calls.{pending_of, floor_of, free_of, pick_of};
+ghost use Rattle.xn_model.specs.Calls.{free_of};
 ghost use Rattle.xn_model.specs.Worlds as model;
 ghost use Rattle.xn_model.specs.Rules.{Holds};
+ghost use Rattle.xn_kernel.specs.Kernels.{is_in_flight};
 ghost use Rattle.xn_state.specs.Events.{event_of, reply_of, IsNoCrash};
-ghost use Rattle.world.specs.Worlds.{WorldValue, world_with};
+ghost use Rattle.world.specs.Worlds.{is_any_in_flight, world_with, value_of, IsWorld};
 
-use crate::mounted::MountedDisk;
+use crate::tickets::Tickets;
+use crate::unmounted::{UnmountedDisk, crash_lanes, take_lanes_back, write_lanes};
 use crate::world::World;
-use std::alloc::{AllocError, Global};
+use disk::{BLOCK_LEN, MemLane};
+use std::alloc::{AllocError, Allocator, Global};
+use std::io;
+use std::io::Write;
 use std::marker::Model;
-use std::thread::Threads;
-use templates::Template;
-use xn_model::Refusal;
-use xn_state::{Edit, EditId, Event, Fs, Reply, Store};
+use xn_kernel::Kernel;
+use xn_state::{Event, Reply};
 
-/// A world that is up: a store, whose calls are those of clients, and a disk, whose events go on beside them.
-pub struct Running {
+mod calls;
+mod steps;
+mod store;
+
+/// A world that is up: a disk in memory with its kernel, and the tickets of the writes that are under way. It is a store, whose calls are those of
+/// clients, and a disk, whose events go on beside them.
+pub struct Running<A: Allocator = Global> {
     alloc: Global,
-    /// The number of the last kernel.
-    kernel: u64,
-    disk: MountedDisk<Global>,
+    kernel: Kernel<MemLane<A>>,
+    tickets: Tickets<A>,
 }
 
-impl Model for Running {
-    ghost use Rattle.world.specs.Worlds.{WorldValue};
+impl<A: Allocator> Model for Running<A> {
+    ghost use Rattle.world.specs.Worlds.{WorldValue, value_of, IsWorld};
 
     ghost Value = { WorldValue };
 
-    ghost view = { λ a. a.disk };
+    ghost view = { λ a. value_of a.kernel a.tickets };
+
+    ghost invariant = { λ a. IsWorld a.kernel a.tickets };
 }
 
 /// Written by hand, so that a function that drops one calls this: a derived drop is proved anew in each such function.
-impl Drop for Running {
+impl<A: Allocator> Drop for Running<A> {
     fn drop(self) {
         let Running {
             alloc: _,
             kernel: _,
-            disk: _,
+            tickets: _,
         } = self;
     }
 }
 
-impl Running {
-    /// Of a mounted disk, with the number of its kernel.
-    pub(crate) fn new(alloc: Global, kernel: u64, disk: MountedDisk<Global>) -> Running
-        ensures { result ≡ disk }
+impl<A: Allocator> Running<A> {
+    /// The disk of this kernel, with a place for each ticket.
+    pub(crate) fn new(
+        alloc: Global,
+        kernel: Kernel<MemLane<A>>,
+        tickets: Tickets<A>,
+    ) -> Running<A>
+        requires { IsWorld kernel tickets }
+        ensures { result ≡ value_of kernel tickets }
     {
         Running {
             alloc,
             kernel,
-            disk,
+            tickets,
         }
     }
 
     /// The world again.
-    pub fn into_world(self) -> World
+    pub fn into_world(self) -> World<A>
         ensures { result ≡ self }
     {
-        let Running {
-            alloc,
-            kernel,
-            disk,
-        } = self;
-        World::mounted(alloc, kernel, disk)
+        World::up(self.alloc, self)
+    }
+
+    /// The kernel, to be asked: what would change it passes the tickets by.
+    pub fn kernel(&self) -> &Kernel<MemLane<A>>
+        ensures { result.now.state ≡ self.now.state }
+    {
+        &self.kernel
     }
 
     /// One event, any but a crash.
@@ -75,118 +92,163 @@ impl Running {
         ensures rules { Holds (world_with self.new) }
     {
         let mut reply = Reply::Down;
-        self.disk.step(event, &mut reply);
-        self.disk.rules();
+        self.step_into(event, &mut reply);
+        self.rules();
         reply
     }
 
-    /// The rules hold of every world. This does nothing.
-    pub fn rules(&self)
-        ensures { Holds (world_with self.now) }
+    /// One event, any but a crash, whose reply is left in `reply`.
+    #[inline(always)]
+    pub(crate) fn step_into(&mut self, event: &Event, reply: &mut Reply)
+        requires { IsNoCrash event.now }
+        ensures step { model.Step (world_with self.old) (event_of event.now) (reply_of reply.new) (world_with self.new) }
+        ensures rules { Holds (world_with self.old) }
     {
-        self.disk.rules();
+        self.rules();
+        match event {
+            Event::Call(fs, call) => self.call(*fs, call, reply),
+            Event::Install(template) => self.install(template, reply),
+            Event::Begin(block) => self.begin(*block, reply),
+            Event::Land(block) => self.land(*block, reply),
+            Event::Fail(block, new_bytes_stay) => self.fail(*block, *new_bytes_stay, reply),
+            Event::Sync(block) => self.sync(*block, reply),
+            Event::FailSync(block) => self.fail_sync(*block, reply),
+            Event::Finish(block) => self.finish(*block, reply),
+            Event::Crash(_kept) => unreachable!(),
+        }
     }
 
-    /// How many pending entries count for the file system.
-    pub fn pending(&self, fs: Fs) -> u32
-        ensures { result ≡ pending_of self.now.state fs.number }
+    /// How many blocks have a life, and how many are free.
+    pub(crate) fn counts(&self) -> Reply
+        ensures { reply_of result ≡ model.Mounted (length self.now.state.lives - free_of self.now.state) (free_of self.now.state) }
     {
-        self.disk.pending(fs)
+        let free = self.kernel.free();
+        Reply::Mounted {
+            reached: self.blocks() as u32 - free,
+            free,
+        }
     }
 
-    /// The least pending entry of the file system, or the next number to be given.
-    pub fn floor(&self, fs: Fs) -> u64
-        ensures { result ≡ floor_of self.now.state fs.number }
+    /// Drops the kernel, and lets the disk crash: the open writes of these blocks are kept, and no others. Every lane is at home
+    /// then, with no open write; the writes that were under way are given up.
+    pub(crate) fn unmount(self, kept: &[u32]) -> UnmountedDisk<A>
+        ensures { result ≡ model.left (world_with self) kept.now }
     {
-        self.disk.floor(fs)
-    }
-
-    /// How many blocks are free.
-    pub fn free(&self) -> u32
-        ensures { result ≡ free_of self.now.state }
-    {
-        self.disk.free()
-    }
-
-    /// The least block that may be written: no write of it is under way, and some entry of it is safe.
-    pub fn pick(&self) -> Option<u32>
-        ensures { result ≡ pick_of self.now.state }
-    {
-        self.disk.pick()
-    }
-
-    /// The bytes of block 0 on the disk: its catalogue tells which templates a mount would find there.
-    pub fn root_bytes(&self) -> &[u8; 512]
-        ensures { result.now ≡ block_of self.now.image 0 }
-    {
-        self.disk.root_bytes()
+        let Running {
+            alloc: _,
+            kernel,
+            mut tickets,
+        } = self;
+        let mut lanes = kernel.into_lanes();
+        take_lanes_back(&mut lanes, &mut tickets);
+        crash_lanes(&mut lanes, kept);
+        UnmountedDisk::new(lanes, tickets)
     }
 
     /// The bytes that the disk holds now, block after block.
     pub fn image(&self) -> Result<Vec<u8>, AllocError>
         ensures { IfOk result (λ image. image.items ≡ joined self.now.image) }
     {
-        self.disk.image_into(Vec::new(self.alloc))
-    }
-}
-
-impl Store for Running {
-    ghost use Rattle.xn_state.specs.States.{own_types};
-
-    ghost types_of = { λ running. own_types running.state };
-
-    ghost state_of = { λ running. running.state };
-
-    fn init(&mut self, fs: Fs, ty: u32, bytes: &[u8; 512]) -> Result<(u32, EditId), Refusal> {
-        self.disk.rules();
-        let made = self.disk.init(fs, ty, bytes);
-        self.disk.rules();
-        made
+        self.image_into(Vec::new(self.alloc))
     }
 
-    fn propose(&mut self, fs: Fs, block: u32, edit: &Edit) -> Result<EditId, Refusal> {
-        self.disk.rules();
-        let made = self.disk.propose(fs, block, edit);
-        self.disk.rules();
-        made
+    /// The same, in the memory of these bytes where that is enough.
+    pub(crate) fn image_into(&self, room: Vec<u8>) -> Result<Vec<u8>, AllocError>
+        ensures { IfOk result (λ image. image.items ≡ joined self.now.image) }
+    {
+        let blocks = self.blocks();
+        let mut image = room;
+        image.clear();
+        image.reserve_exact(BLOCK_LEN.saturating_mul(blocks))?;
+        for block in 0..blocks {
+            image.extend_from_slice(self.block_bytes(block))?;
+        }
+        Ok(image)
     }
 
-    fn make_root(&mut self, fs: Fs, block: u32) -> Result<EditId, Refusal> {
-        self.disk.rules();
-        let made = self.disk.make_root(fs, block);
-        self.disk.rules();
-        made
+    /// Writes the bytes that the disk holds, block after block. The disk is given up for them, and what the kernel knew first.
+    pub(crate) fn write_to<W: Write>(self, out: &mut W) -> io::Result<()>
+        ensures { OnOk result (Appends (W.contents out.old) (W.contents out.new) (joined self.image)) }
+    {
+        let Running {
+            alloc,
+            kernel,
+            mut tickets,
+        } = self;
+        let mut lanes = kernel.into_lanes();
+        take_lanes_back(&mut lanes, &mut tickets);
+        write_lanes(alloc, lanes, out)
     }
 
-    fn forget(&mut self, fs: Fs, block: u32) -> Result<(), Refusal> {
-        self.disk.rules();
-        let done = self.disk.forget(fs, block);
-        self.disk.rules();
-        done
+    /// Whether a write of the block is under way.
+    pub(crate) fn is_in_flight(&self, block: u32) -> bool
+        ensures flight { result ≡ is_in_flight self.now.state block }
+        ensures up { self.now.down ≡ false }
+    {
+        self.tickets.get(block).is_some()
     }
 
-    fn read(&self, fs: Fs, block: u32) -> Result<&[u8; 512], Refusal> {
-        self.disk.rules();
-        self.disk.read(fs, block)
+    /// Whether a write of some block is under way.
+    pub(crate) fn is_any_in_flight(&self) -> bool
+        ensures { result ≡ is_any_in_flight self.now.state }
+    {
+        self.rules();
+        for block in 0..self.blocks() {
+            if self.is_in_flight(block as u32) {
+                return true;
+            }
+        }
+        false
     }
 
-    fn root(&self, fs: Fs) -> Option<u32> {
-        self.disk.rules();
-        self.disk.root(fs)
+    /// Whether it is down, which no mounted disk is.
+    pub(crate) fn is_down(&self) -> bool
+        ensures { result ≡ self.now.down }
+    {
+        let _kernel = &self.kernel;
+        false
     }
 
-    fn template(&self, ty: u32) -> Option<&Template> {
-        self.disk.rules();
-        self.disk.template(ty)
+    /// The rules hold of every world. This does nothing.
+    pub fn rules(&self)
+        ensures { Holds (world_with self.now) }
+    {
+        let _kernel = &self.kernel;
     }
 
-    fn pending(&self, fs: Fs) -> u32 {
-        self.disk.rules();
-        self.disk.pending(fs)
+    /// It is up. This does nothing.
+    pub(crate) fn is_up(&self)
+        ensures { self.now.down ≡ false }
+    {
+        let _kernel = &self.kernel;
     }
 
-    fn kind(&self, fs: Fs, block: u32) -> Result<u32, Refusal> {
-        self.disk.rules();
-        self.disk.kind(fs, block)
+    /// How many blocks the disk has.
+    fn blocks(&self) -> usize
+        ensures { result ≡ length self.now.image }
+    {
+        self.tickets.len()
+    }
+
+    /// The bytes of block 0 on the disk: its catalogue tells which templates a mount would find there.
+    pub fn root_bytes(&self) -> &[u8; 512]
+        ensures { result.now ≡ block_of self.now.image 0 }
+    {
+        self.rules();
+        self.block_bytes(0)
+    }
+
+    /// The bytes of one block, whose lane is at home or with a ticket.
+    fn block_bytes(&self, block: usize) -> &[u8; 512]
+        requires { block < length self.now.image }
+        ensures { result.now ≡ block_of self.now.image block }
+    {
+        match self.kernel.lane(block as u32) {
+            Some(lane) => lane.bytes(),
+            None => match self.tickets.get(block as u32) {
+                Some(ticket) => ticket.lane().bytes(),
+                None => unreachable!(),
+            },
+        }
     }
 }

@@ -1,6 +1,6 @@
 // The tickets of the writes that are under way, by block.
 
-ghost use Rattle.std.specs.Prelude.{◌≡◌, ◌++◌, ◌+◌, ◌-◌, ◌<◌, ◌≤◌, length, replicate, Some, None, IfOk, IfSome, IfNone, slice_set, vec_capacity};
+ghost use Rattle.std.specs.Prelude.{◌≡◌, ◌++◌, ◌+◌, ◌-◌, ◌<◌, ◌≤◌, length, replicate, [], Some, None, IfOk, IfSome, IfNone, slice_set, vec_capacity};
 ghost use Rattle.std.specs.Option.{option_copied};
 ghost use Rattle.disk.specs.Mem.{memory_write, memory_sync};
 ghost use Rattle.world.specs.Disks.{ticket_at, IsLanded, IsFailed, IsSynced, IsSyncFailed};
@@ -47,6 +47,16 @@ impl<A: Allocator> Tickets<A> {
     {
         let front = Vec::with_capacity(alloc, blocks)?;
         Ok(Tickets { blocks, front })
+    }
+
+    /// No place.
+    pub fn none(alloc: Global) -> Tickets<A>
+        ensures { result ≡ [] }
+    {
+        Tickets {
+            blocks: 0,
+            front: Vec::new(alloc),
+        }
     }
 
     /// How many places there are.

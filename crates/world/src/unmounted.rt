@@ -1,7 +1,7 @@
 // A disk that is not mounted.
 
 ghost use Rattle.std.specs.Prelude.{◌≡◌, ◌≢◌, ◌⊎◌, ◌*◌, ◌%◌, ◌^◌, ◌<◌, List, All, length, replicate, Some, None, Err, IfOk, IfErr, IfSome, OnOk, slice_get};
-ghost use Rattle.std.specs.Prelude.{slice_set, option_map};
+ghost use Rattle.std.specs.Prelude.{slice_set, option_map, []};
 ghost use Rattle.std.specs.List.{AllByRecursion};
 ghost use Rattle.std.specs.Io.KnownBytes.{Appends};
 ghost use Rattle.xn_model.specs.Images.{block_of, blocks_in, joined, IsSound};
@@ -12,7 +12,7 @@ ghost use Rattle.disk.specs.Mem.{crashed_lane};
 ghost use Rattle.world.specs.Disks.{image_of, settled_image, given_to, lane_at, lanes_with, AreLong, AreWhole, HaveCrashed, IsLaneHome, IsLong, IsUnmounted};
 ghost use Rattle.world.specs.Worlds.{mounted_value};
 
-use crate::mounted::MountedDisk;
+use crate::running::Running;
 use crate::ticket::DroppableTicket;
 use crate::tickets::Tickets;
 use crash_check::{ImageFault, mount};
@@ -24,6 +24,9 @@ use std::marker::Model;
 use std::thread::Threads;
 use xn_kernel::Kernel;
 use xn_state::State;
+
+/// The number of each kernel of a world. It has one at a time, and a crash takes its tickets with it, so that no other is needed.
+const KERNEL: u64 = 1;
 
 /// A disk in memory whose lanes are all at home, and the empty places of its tickets.
 pub struct UnmountedDisk<A: Allocator> {
@@ -61,14 +64,20 @@ impl<A: Allocator> UnmountedDisk<A> {
         UnmountedDisk { lanes, tickets }
     }
 
-    /// Mounts the disk, by a kernel of this number. `Err` has the first fault and gives the disk back; of a sound disk it
+    /// A disk without blocks.
+    pub fn none(alloc: Global) -> UnmountedDisk<A>
+        ensures { result ≡ [] }
+    {
+        UnmountedDisk::new(Lanes::none(alloc), Tickets::none(alloc))
+    }
+
+    /// Mounts the disk. `Err` has the first fault and gives the disk back; of a sound disk it
     /// comes only for want of memory.
     pub fn mount(
         self,
         rt: &(impl Threads + Sync),
         alloc: Global,
-        id: u64,
-    ) -> Result<MountedDisk<A>, (ImageFault, UnmountedDisk<A>)>
+    ) -> Result<Running<A>, (ImageFault, UnmountedDisk<A>)>
         ensures ok { IfOk result (λ disk. disk ≡ mounted_value self) }
         ensures sound { IfOk result (λ disk. IsSound (types_of_image self) (length self) (block_of self)) }
         ensures back { IfErr result (λ back. back.1 ≡ self) }
@@ -76,21 +85,21 @@ impl<A: Allocator> UnmountedDisk<A> {
         ensures memory { IfErr result (λ back. IsSound (types_of_image self) (length self) (block_of self) → back.0 ≡ ImageFault.NoMemory) }
     {
         let UnmountedDisk { lanes, tickets } = self;
-        match mount(rt, alloc, lanes, id) {
-            Ok(kernel) => Ok(MountedDisk::new(kernel, tickets)),
+        match mount(rt, alloc, lanes, KERNEL) {
+            Ok(kernel) => Ok(Running::new(alloc, kernel, tickets)),
             Err((fault, lanes)) => Err((fault, UnmountedDisk::new(lanes, tickets))),
         }
     }
 
-    /// Mounts the disk, which is sound and of which all is known, by a kernel of this number: no lane is read.
-    pub fn mount_known(self, id: u64, state: State) -> MountedDisk<A>
+    /// Mounts the disk, which is sound and of which all is known: no lane is read.
+    pub fn mount_known(self, alloc: Global, state: State) -> Running<A>
         requires sound { IsSound (types_of_image self) (length self) (block_of self) }
         requires known { state ≡ state_of self }
         ensures { result ≡ mounted_value self }
     {
         let UnmountedDisk { lanes, tickets } = self;
-        let kernel = Kernel::over(id, lanes, state);
-        MountedDisk::new(kernel, tickets)
+        let kernel = Kernel::over(KERNEL, lanes, state);
+        Running::new(alloc, kernel, tickets)
     }
 
     /// The bytes that the disk holds now, block after block, in the memory of these where that is enough.

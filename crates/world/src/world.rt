@@ -19,9 +19,9 @@ ghost use Rattle.templates.specs.Formats.{formatted, format_fault, IsFormatFault
 ghost use Rattle.templates.specs.Language.{language, types_of_image};
 ghost use Rattle.xn_kernel.specs.Kernels.{is_in_flight};
 ghost use Rattle.xn_state.specs.Events.{event_of, reply_of, IsNoCrash};
-ghost use Rattle.world.specs.Worlds.{is_any_in_flight, world_with, world_value, IsSoundDisk, IsWorldOf};
+ghost use Rattle.world.specs.Worlds.{is_any_in_flight, world_with, IsSoundDisk};
+ghost use Rattle.world.specs.WorldDisks.{disk_value, IsWorldDisk};
 
-use crate::mounted::MountedDisk;
 use crate::running::Running;
 use crate::unmounted::{UnmountedDisk, is_whole};
 use crash_check::{ImageFault, state_of};
@@ -30,6 +30,7 @@ use std::alloc::{AllocError, Allocator, Global};
 use std::io;
 use std::io::Write;
 use std::marker::Model;
+use std::mem;
 use std::thread::Threads;
 use templates::{FormatFault, Template, format_image};
 use xn_model::Refusal;
@@ -39,32 +40,31 @@ use xn_state::{Answer, EditId, Event, Landed, Reply, State, Stopped};
 /// is down, and has no kernel. The second lots of its lanes' bytes have their memory from `A`.
 pub struct World<A: Allocator = Global> {
     alloc: Global,
-    /// The number of the last kernel.
-    kernel: u64,
-    mounted: Option<MountedDisk<A>>,
-    /// The disk while the world is down.
-    unmounted: Option<UnmountedDisk<A>>,
+    disk: WorldDisk<A>,
+}
+
+/// The disk of a world, which is mounted or not.
+#[derive(Drop)]
+enum WorldDisk<A: Allocator> {
+    Up(Running<A>),
+    Down(UnmountedDisk<A>),
 }
 
 impl<A: Allocator> Model for World<A> {
-    ghost use Rattle.world.specs.Worlds.{WorldValue, world_value, IsWorldOf};
+    ghost use Rattle.world.specs.Worlds.{WorldValue};
+    ghost use Rattle.world.specs.WorldDisks.{disk_value, IsWorldDisk};
 
     ghost Value = { WorldValue };
 
-    ghost view = { λ a. world_value a.mounted a.unmounted };
+    ghost view = { λ a. disk_value a.disk };
 
-    ghost invariant = { λ a. IsWorldOf a.mounted a.unmounted };
+    ghost invariant = { λ a. IsWorldDisk a.disk };
 }
 
 /// Written by hand, so that a function that drops one calls this: a derived drop is proved anew in each such function.
 impl<A: Allocator> Drop for World<A> {
     fn drop(self) {
-        let World {
-            alloc: _,
-            kernel: _,
-            mounted: _,
-            unmounted: _,
-        } = self;
+        let World { alloc: _, disk: _ } = self;
     }
 }
 
@@ -122,28 +122,6 @@ impl World {
     {
         World::open_image_in(rt, alloc, alloc, image)
     }
-
-    /// The world as a store, for as long as no crash comes. `Err` gives it back, and comes only while it is down.
-    pub fn into_running(self) -> Result<Running, World>
-        ensures ok { IfOk result (λ running. (running ≡ self) × (running.down ≡ false)) }
-        ensures err { IfErr result (λ back. (back ≡ self) × (back.down ≡ true)) }
-    {
-        let World {
-            alloc,
-            kernel,
-            mounted,
-            unmounted,
-        } = self;
-        match mounted {
-            Some(disk) => Ok(Running::new(alloc, kernel, disk)),
-            None => Err(World {
-                alloc,
-                kernel,
-                mounted: None,
-                unmounted,
-            }),
-        }
-    }
 }
 
 impl<A: Allocator + Copy> World<A> {
@@ -172,7 +150,7 @@ impl<A: Allocator + Copy> World<A> {
         ensures err { IfErr result (λ fault. fault ≡ ImageFault.NoMemory) }
     {
         match UnmountedDisk::of_image(alloc, rooms, image) {
-            Ok(disk) => Ok(World::mounted(alloc, 1, disk.mount_known(1, state))),
+            Ok(disk) => Ok(World::up(alloc, disk.mount_known(alloc, state))),
             Err(_) => Err(ImageFault::NoMemory),
         }
     }
@@ -267,12 +245,9 @@ impl<A: Allocator> World<A> {
     pub fn image_into(&self, room: Vec<u8>) -> Result<Vec<u8>, AllocError>
         ensures { IfOk result (λ image. image.items ≡ joined self.now.image) }
     {
-        match &self.mounted {
-            Some(disk) => disk.image_into(room),
-            None => match &self.unmounted {
-                Some(disk) => disk.image_into(room),
-                None => unreachable!(),
-            },
+        match &self.disk {
+            WorldDisk::Up(running) => running.image_into(room),
+            WorldDisk::Down(disk) => disk.image_into(room),
         }
     }
 
@@ -281,18 +256,10 @@ impl<A: Allocator> World<A> {
     pub fn write_to<W: Write>(self, out: &mut W) -> io::Result<()>
         ensures { OnOk result (Appends (W.contents out.old) (W.contents out.new) (joined self.image)) }
     {
-        let World {
-            alloc,
-            kernel: _,
-            mounted,
-            unmounted,
-        } = self;
-        match mounted {
-            Some(disk) => disk.write_to(alloc, out),
-            None => match unmounted {
-                Some(disk) => disk.write_to(alloc, out),
-                None => unreachable!(),
-            },
+        let World { alloc, disk } = self;
+        match disk {
+            WorldDisk::Up(running) => running.write_to(out),
+            WorldDisk::Down(disk) => disk.write_to(alloc, out),
         }
     }
 
@@ -301,9 +268,9 @@ impl<A: Allocator> World<A> {
         ensures flight { result ≡ is_in_flight self.now.state block }
         ensures up { IsTrue result → self.now.down ≡ false }
     {
-        match &self.mounted {
-            None => false,
-            Some(disk) => disk.is_in_flight(block),
+        match &self.disk {
+            WorldDisk::Up(running) => running.is_in_flight(block),
+            WorldDisk::Down(_) => false,
         }
     }
 
@@ -311,9 +278,9 @@ impl<A: Allocator> World<A> {
     pub fn is_any_in_flight(&self) -> bool
         ensures { result ≡ is_any_in_flight self.now.state }
     {
-        match &self.mounted {
-            None => false,
-            Some(disk) => disk.is_any_in_flight(),
+        match &self.disk {
+            WorldDisk::Up(running) => running.is_any_in_flight(),
+            WorldDisk::Down(_) => false,
         }
     }
 
@@ -321,21 +288,37 @@ impl<A: Allocator> World<A> {
     pub fn is_down(&self) -> bool
         ensures { result ≡ self.now.down }
     {
-        match &self.mounted {
-            None => true,
-            Some(disk) => disk.is_down(),
+        match &self.disk {
+            WorldDisk::Up(running) => running.is_down(),
+            WorldDisk::Down(_) => true,
         }
     }
 
-    /// The world of a mounted disk, with the number of its kernel.
-    pub(crate) fn mounted(alloc: Global, kernel: u64, disk: MountedDisk<A>) -> World<A>
-        ensures { result ≡ disk }
+    /// The world that is up so.
+    pub(crate) fn up(alloc: Global, running: Running<A>) -> World<A>
+        ensures { result ≡ running }
     {
         World {
             alloc,
-            kernel,
-            mounted: Some(disk),
-            unmounted: None,
+            disk: WorldDisk::Up(running),
+        }
+    }
+
+    /// The world as a store, for as long as no crash comes. `Err` gives it back, and comes only while it is down.
+    pub fn into_running(self) -> Result<Running<A>, World<A>>
+        ensures ok { IfOk result (λ running. (running ≡ self) × (running.down ≡ false)) }
+        ensures err { IfErr result (λ back. (back ≡ self) × (back.down ≡ true)) }
+    {
+        let World { alloc, disk } = self;
+        match disk {
+            WorldDisk::Up(running) => {
+                running.is_up();
+                Ok(running)
+            }
+            WorldDisk::Down(disk) => Err(World {
+                alloc,
+                disk: WorldDisk::Down(disk),
+            }),
         }
     }
 
@@ -363,9 +346,9 @@ impl<A: Allocator> World<A> {
         requires { IsNoCrash event.now }
         ensures { model.Step (world_with self.old) (event_of event.now) (reply_of reply.new) (world_with self.new) }
     {
-        match &mut self.mounted {
-            None => *reply = Reply::Down,
-            Some(disk) => disk.step(event, reply),
+        match &mut self.disk {
+            WorldDisk::Up(running) => running.step_into(event, reply),
+            WorldDisk::Down(_) => *reply = Reply::Down,
         }
     }
 
@@ -374,16 +357,16 @@ impl<A: Allocator> World<A> {
     fn crash(&mut self, rt: &(impl Threads + Sync), kept: &[u32]) -> Reply
         ensures { model.AfterCrash (world_with self.old) kept.now (reply_of result) (world_with self.new) }
     {
-        let disk = taken(self.mounted.take(), self.unmounted.take(), kept);
-        self.kernel = self.kernel.wrapping_add(1);
-        match disk.mount(rt, self.alloc, self.kernel) {
-            Ok(disk) => {
-                let reply = disk.counts();
-                self.mounted = Some(disk);
+        let none = WorldDisk::Down(UnmountedDisk::none(self.alloc));
+        let disk = mem::replace(&mut self.disk, none).left(kept);
+        match disk.mount(rt, self.alloc) {
+            Ok(running) => {
+                let reply = running.counts();
+                self.disk = WorldDisk::Up(running);
                 reply
             }
             Err((ImageFault::NoMemory, disk)) => {
-                self.unmounted = Some(disk);
+                self.disk = WorldDisk::Down(disk);
                 Reply::Down
             }
             Err(_) => unreachable!(),
@@ -402,15 +385,32 @@ impl<A: Allocator> World<A> {
     pub fn rules(&self)
         ensures { Holds (world_with self.now) }
     {
-        match &self.mounted {
-            Some(disk) => disk.rules(),
-            None => {}
+        match &self.disk {
+            WorldDisk::Up(running) => running.rules(),
+            WorldDisk::Down(_) => {}
         }
     }
 
     /// What its calls take their memory from.
     fn alloc(&self) -> Global {
         self.alloc
+    }
+}
+
+impl<A: Allocator> WorldDisk<A> {
+    /// What a crash leaves of the disk that keeps the open writes of these blocks and no others: all lanes are at home, with no open write.
+    fn left(self, kept: &[u32]) -> UnmountedDisk<A>
+        requires { IsWorldDisk self }
+        ensures image { result ≡ model.left (world_with (disk_value self)) kept.now }
+        ensures sound { IsSoundDisk result }
+    {
+        match self {
+            WorldDisk::Up(running) => {
+                running.rules();
+                running.unmount(kept)
+            }
+            WorldDisk::Down(disk) => disk,
+        }
     }
 }
 
@@ -446,27 +446,5 @@ fn are_events(events: &[Event])
 {
     for at in 0..events.len() {
         is_event(&events[at]);
-    }
-}
-
-/// What a crash leaves of the disk of a world, whether it is mounted or not, with all lanes at home.
-fn taken<A: Allocator>(
-    mounted: Option<MountedDisk<A>>,
-    unmounted: Option<UnmountedDisk<A>>,
-    kept: &[u32],
-) -> UnmountedDisk<A>
-    requires { IsWorldOf mounted unmounted }
-    ensures image { result ≡ model.left (world_with (world_value mounted unmounted)) kept.now }
-    ensures sound { IsSoundDisk result }
-{
-    match mounted {
-        Some(disk) => {
-            disk.rules();
-            disk.unmount(kept)
-        }
-        None => match unmounted {
-            Some(disk) => disk,
-            None => unreachable!(),
-        },
     }
 }

@@ -3,8 +3,8 @@
 ghost use Rattle.std.specs.Prelude.{◌≡◌, ◌≢◌, ◌⊎◌, ◌<◌, ◌≤◌, ℕ, List, length, Option, Some, None, false, Result, Ok, Err, IsTrue, IfOk, OnOk, OnErr, IfErr};
 ghost use Rattle.std.specs.Prelude.{IsErrAnd, slice_get, slice_set, unwrap_or, option_copied};
 ghost use Rattle.disk.specs.Lanes.{CountsOne, AreSynced, LeavesNoMore};
-ghost use Rattle.xn_model.specs.Results.{Gives, GivesExactly, result_map};
-ghost use Rattle.xn_model.specs.Calls.{init_of, make_root_of, begun_of, settled_of, floor_of};
+ghost use Rattle.xn_model.specs.Results.{GivesExactly, result_map};
+ghost use Rattle.xn_model.specs.Calls.{begun_of, settled_of};
 ghost use Rattle.xn_model.specs.Worlds.{mounted_state};
 ghost use Rattle.xn_model.specs.Images.{blocks_in};
 ghost use Rattle.xn_model.specs.Lanes.{FitLives, HoldImage};
@@ -25,11 +25,9 @@ use xn_state::{EditId, Found, Fs, Landed, Refusal, State};
 mod answers;
 mod call;
 mod drain;
-mod edits;
 mod flush;
-mod forget;
 mod install;
-mod kept;
+mod store;
 
 pub use drain::DrainStop;
 pub use flush::FlushStop;
@@ -116,34 +114,13 @@ impl<L: Lane> Kernel<L> {
         }
     }
 
-    /// Its rules.
-    pub(crate) fn rules(&self)
+    /// Tells a caller that is generic in its lanes what is known of every kernel: the rules over all lives hold, a lane at home holds its
+    /// block's durable bytes and no write that isn't synced, and a lane is away exactly while a write of its block is under way. It does
+    /// nothing.
+    pub fn keeps_rules(&self)
         ensures { IsKernel L.bytes_of L.crash_leaves self.now.lanes self.now.state }
     {
         let _id = self.id;
-    }
-
-    /// Starts a life with these bytes on the lowest free block.
-    pub fn init(&mut self, fs: Fs, ty: u32, bytes: &[u8; 512]) -> Result<(u32, EditId), Refusal>
-        ensures state { Gives (init_of (own_types self.old.state) self.old.state fs.number ty bytes.now) self.old.state self.new.state result }
-        ensures rest { self.new ≡ record self.old { state = self.new.state } }
-    {
-        self.state.init(fs, ty, bytes)
-    }
-
-    /// Sets the file system's root slot, in block 0, to a fresh block.
-    pub fn make_root(&mut self, fs: Fs, block: u32) -> Result<EditId, Refusal>
-        ensures state { Gives (make_root_of self.old.state fs.number block) self.old.state self.new.state result }
-        ensures rest { self.new ≡ record self.old { state = self.new.state } }
-    {
-        self.state.make_root(fs, block)
-    }
-
-    /// The least pending entry of a file system, or the next number to be given.
-    pub fn floor(&self, fs: Fs) -> u64
-        ensures { result ≡ floor_of self.now.state fs.number }
-    {
-        self.state.floor(fs)
     }
 
     /// The lane of a block, for looking; `None` while a write of the block is under way, and past the

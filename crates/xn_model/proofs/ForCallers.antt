@@ -21,7 +21,7 @@ pub use Rattle.xn_model.proofs.Orders.{below_next}
 -- calls
 pub use Rattle.xn_model.proofs.Given.{gives_exactly-err, gives_exactly-ok, gives_exactly_keeps, gives_keeps}
 pub use Rattle.xn_model.proofs.Init.{init_keeps, lowest_is}
-pub use Rattle.xn_model.proofs.Edits.{addable, addable_system, claim_stays, droppable, in_newest, not_root, propose_keeps}
+pub use Rattle.xn_model.proofs.Edits.{addable, addable_system, claim_stays, claimed, droppable, in_newest, not_root, propose_keeps}
 pub use Rattle.xn_model.proofs.Roots.{drop_root_keeps, make_root_keeps, newest_is, root_lists, root_named, root_owns, small_life}
 pub use Rattle.xn_model.proofs.Install.{IsInstalled, begun_kept, install_keeps, installed_is, installed_others, installed_own, place_is}
 pub use Rattle.xn_model.proofs.Begin.{begun_keeps}

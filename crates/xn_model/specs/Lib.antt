@@ -16,3 +16,4 @@ pub mod BareDisks
 pub mod Rows
 pub mod WaveRows
 pub mod Refusals
+pub mod PendingIn

@@ -15,4 +15,5 @@ pub mod Slots
 pub mod Claiming
 pub mod Unclaimed
 pub mod Newest
+pub mod NewestEntries
 pub mod ForCallers

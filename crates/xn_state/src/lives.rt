@@ -8,6 +8,7 @@ ghost use Rattle.xn_model.specs.Lives.{accepted_at, alive_and, chain_end, curren
 ghost use Rattle.xn_model.specs.Lives.{owned_after};
 ghost use Rattle.xn_model.specs.Results.{result_map};
 ghost use Rattle.xn_model.specs.Calls.{is_ready, is_tainted, life_bytes, life_pending, new_life, own_place, patched, pending_in};
+ghost use Rattle.xn_model.specs.PendingIn.{newest_entry};
 ghost use Rattle.xn_model.specs.Images.{blocks_in};
 ghost use Rattle.block_cache.specs.Systems.{system_of};
 ghost use Rattle.block_cache.specs.Claims.{claimed_state};
@@ -136,11 +137,23 @@ impl Lives {
         self.cache.current(block)
     }
 
-    /// How many entries of a block are pending.
+    /// How many entries of a block are pending, at most 64.
     pub fn pending(&self, block: u32) -> usize
-        ensures { result ≡ life_pending (life_at self.now block) }
+        ensures count { result ≡ life_pending (life_at self.now block) }
+        ensures few { result ≤ 64 }
     {
         self.cache.pending(block)
+    }
+
+    /// The number of the newest pending entry of a block.
+    pub fn newest_entry(&self, block: u32) -> Option<EditId>
+        ensures { result ≡ newest_entry (life_at self.now block) }
+    {
+        let count = self.cache.pending(block);
+        if count == 0 {
+            return None;
+        }
+        Some(self.cache.claim(block, count - 1)?.entry())
     }
 
     /// Whether a block is in use and belongs to a file system.

@@ -8,7 +8,7 @@ use std::fs;
 use std::fs::{File, Files};
 use std::thread::Threads;
 use templates::format_image;
-use xn_kernel::{FlushStop, Fs, Kernel};
+use xn_kernel::{FlushStop, Fs, Kernel, Store};
 
 /// Where the disk lies.
 const PATH: &str = "scenes.disk";

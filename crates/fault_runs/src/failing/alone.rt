@@ -6,7 +6,7 @@ use crate::failing::tally::Tally;
 use crash_check::{ImageFault, mount};
 use std::alloc::Global;
 use std::thread::Threads;
-use xn_kernel::{DrainStop, FlushStop, Fs, Kernel, Refusal, Ticket};
+use xn_kernel::{DrainStop, FlushStop, Fs, Kernel, Refusal, Store, Ticket};
 
 /// How all that is pending is written.
 #[derive(Clone, Copy)]

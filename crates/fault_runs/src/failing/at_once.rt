@@ -14,7 +14,7 @@ use std::alloc::Global;
 use std::marker::Brand;
 use std::sync::Wait;
 use std::thread::{Threads, join, map_indices};
-use xn_kernel::{FlushStop, Fs, Kernel, Refusal, Ticket};
+use xn_kernel::{FlushStop, Fs, Kernel, Refusal, Store, Ticket};
 
 /// How many edits each worker makes.
 const EDITS: u32 = 12;

@@ -10,7 +10,7 @@ use durable_floor::{Floor, Naming, Reader};
 use shared::Hub;
 use std::alloc::Global;
 use std::thread::Threads;
-use xn_kernel::{DrainStop, Fs, Kernel, Landed, Refusal, Ticket};
+use xn_kernel::{DrainStop, Fs, Kernel, Landed, Refusal, Store, Ticket};
 
 /// A kernel in which file system 0 has a durable block, 1, in its root slot and a fresh one, 2, and file system 1 has two fresh ones, 3
 /// and 4. It was mounted before the fresh blocks were started, so each other call of it is its first: none has memory of an earlier one.
@@ -101,10 +101,12 @@ fn is_given_back(lanes: Lanes<MemLane>, blocks: usize, block: u32) -> bool {
 pub fn hub_looks<K: Naming>(hub: &Hub<MemLane, K>, first: Fs, second: Fs) -> u32 {
     count(&[
         hub.read(first, 1) == Ok(&[1; 512]) && hub.root(first) == Some(1),
-        hub.kind(first, 1) == Ok(2) && !hub.tainted(1),
+        hub.kind(first, 1) == Ok(2) && !hub.kernel().tainted(1),
         hub.template(1).is_some() && hub.template(3).is_none(),
         hub.pending(second) == 2 && hub.floor(second) == 2,
-        hub.free() == 27 && hub.pick() == Some(2) && hub.lane(1).is_some(),
+        hub.kernel().free() == 27
+            && hub.kernel().pick() == Some(2)
+            && hub.kernel().lane(1).is_some(),
     ])
 }
 

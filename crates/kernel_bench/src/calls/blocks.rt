@@ -3,7 +3,7 @@
 use crate::calls::writes::drain;
 use disk::MemLane;
 use std::alloc::{AllocError, Global};
-use xn_kernel::{Edit, Fs, Kernel, Patch};
+use xn_kernel::{Edit, Fs, Kernel, Patch, Store};
 
 /// A block of data in a file system's root slot, durable; `None` where that was refused.
 pub fn rooted_data(kernel: &mut Kernel<MemLane>, fs: Fs) -> Option<u32> {

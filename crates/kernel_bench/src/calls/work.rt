@@ -3,7 +3,7 @@
 use crate::calls::writes::{drain, write};
 use disk::MemLane;
 use std::alloc::{AllocError, Global};
-use xn_kernel::{Edit, Fs, Kernel, Patch};
+use xn_kernel::{Edit, Fs, Kernel, Patch, Store};
 
 /// What is made many times.
 #[derive(Clone, Copy, Drop)]

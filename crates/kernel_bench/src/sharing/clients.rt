@@ -9,7 +9,7 @@ use std::alloc::{AllocError, Global};
 use std::sync::Wait;
 use std::thread;
 use std::thread::{Threads, join};
-use xn_kernel::{Edit, Fs, Patch};
+use xn_kernel::{Edit, Fs, Patch, Store};
 
 /// How many edits each client makes.
 pub const EDITS: u32 = 200;

@@ -13,7 +13,7 @@ use std::alloc::{AllocError, Global};
 use std::marker::Brand;
 use std::sync::{Arc, Wait};
 use std::thread::{Threads, join};
-use xn_kernel::{Fs, Kernel};
+use xn_kernel::{Fs, Kernel, Store};
 
 /// The readers of the four clients.
 #[derive(Drop)]

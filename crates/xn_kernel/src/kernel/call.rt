@@ -1,7 +1,8 @@
-// Calls as values, and the kernel as a store.
+// Calls as values, and the call that no store has.
 
 ghost use Rattle.std.specs.Prelude.{◌≡◌, ◌≢◌};
-ghost use Rattle.xn_model.specs.Rules.{IsConsistent};
+ghost use Rattle.xn_model.specs.Results.{Gives};
+ghost use Rattle.xn_model.specs.Calls.{drop_root_of};
 ghost use Rattle.xn_state.specs.declared.call.Call.TheVariants.{Drain};
 ghost use Rattle.xn_state.specs.Answers.{StateAnswers};
 ghost use Rattle.xn_model.specs.Lives.{StoreState};
@@ -10,8 +11,7 @@ ghost use Rattle.xn_kernel.specs.Kernels.{KernelValue};
 
 use crate::kernel::Kernel;
 use disk::Lane;
-use templates::Template;
-use xn_state::{Answer, Call, Edit, EditId, Fs, Refusal, Store};
+use xn_state::{Answer, Call, EditId, Fs, Refusal, Store};
 
 impl<L: Lane> Kernel<L> {
     /// Makes a call for a file system, any but `drain`.
@@ -38,65 +38,14 @@ impl<L: Lane> Kernel<L> {
             Call::Drain => unreachable!(),
         }
     }
-}
 
-impl<L: Lane> Store for Kernel<L> {
-    ghost use Rattle.xn_state.specs.States.{own_types};
-
-    ghost types_of = { λ kernel. own_types kernel.state };
-
-    ghost state_of = { λ kernel. kernel.state };
-
-    fn init(&mut self, fs: Fs, ty: u32, bytes: &[u8; 512]) -> Result<(u32, EditId), Refusal> {
-        self.rules();
-        let made = Kernel::init(self, fs, ty, bytes);
-        self.rules();
-        made
-    }
-
-    fn propose(&mut self, fs: Fs, block: u32, edit: &Edit) -> Result<EditId, Refusal> {
-        self.rules();
-        let made = Kernel::propose(self, fs, block, edit);
-        self.rules();
-        made
-    }
-
-    fn make_root(&mut self, fs: Fs, block: u32) -> Result<EditId, Refusal> {
-        self.rules();
-        let made = Kernel::make_root(self, fs, block);
-        self.rules();
-        made
-    }
-
-    fn forget(&mut self, fs: Fs, block: u32) -> Result<(), Refusal> {
-        self.rules();
-        let done = Kernel::forget(self, fs, block);
-        self.rules();
-        done
-    }
-
-    fn read(&self, fs: Fs, block: u32) -> Result<&[u8; 512], Refusal> {
-        self.rules();
-        Kernel::read(self, fs, block)
-    }
-
-    fn root(&self, fs: Fs) -> Option<u32> {
-        self.rules();
-        Kernel::root(self, fs)
-    }
-
-    fn template(&self, ty: u32) -> Option<&Template> {
-        self.rules();
-        Kernel::template(self, ty)
-    }
-
-    fn pending(&self, fs: Fs) -> u32 {
-        self.rules();
-        Kernel::pending(self, fs)
-    }
-
-    fn kind(&self, fs: Fs, block: u32) -> Result<u32, Refusal> {
-        self.rules();
-        Kernel::kind(self, fs, block)
+    /// Empties the file system's root slot, in block 0: the block that stood there is dropped. Refused are, in this order, an
+    /// empty slot (`NotOwned`), a block that points to others (`NotEmpty`), too many pending entries (`TooManyPending`), no
+    /// number left (`Exhausted`), last `NoMemory`. A refusal changes nothing.
+    pub fn drop_root(&mut self, fs: Fs) -> Result<EditId, Refusal>
+        ensures state { Gives (drop_root_of (own_types self.old.state) self.old.state fs.number) self.old.state self.new.state result }
+        ensures rest { self.new ≡ record self.old { state = self.new.state } }
+    {
+        self.state.drop_root(fs)
     }
 }

@@ -46,7 +46,7 @@ impl<L: Lane> Kernel<L> {
         ensures err { IfErr result (λ ticket. StopsAtDevice L.bytes_of L.faults_of L.write_gives L.sync_gives L.read_gives
             self.old ticket Refusal.Device self.new) }
     {
-        self.rules();
+        self.keeps_rules();
         let Ok(mut ticket) = self.begin(block) else {
             unreachable!()
         };
@@ -89,7 +89,7 @@ impl<L: Lane> Kernel<L> {
         }
         let most = self.all_pending();
         for writes in 0..most {
-            self.rules();
+            self.keeps_rules();
             let Some(block) = self.pick() else {
                 return Ok(writes);
             };

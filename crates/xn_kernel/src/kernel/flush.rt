@@ -65,7 +65,7 @@ impl<L: Lane> Kernel<L> {
         ensures length { vec_len failed.new + result.durable ≤ vec_len failed.old + result.blocks }
         ensures capacity { vec_capacity failed.new ≡ vec_capacity failed.old }
     {
-        self.rules();
+        self.keeps_rules();
         if room == 0 {
             return WaveEnd {
                 blocks: 0,
@@ -144,7 +144,7 @@ impl<L: Lane> Kernel<L> {
             });
         };
         for waves in 0..most {
-            self.rules();
+            self.keeps_rules();
             let end = self.wave(WAVE_ROOM, &mut failed);
             if end.blocks == 0 {
                 failed.destroy_empty();

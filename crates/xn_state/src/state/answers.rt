@@ -4,11 +4,12 @@ ghost use Rattle.std.specs.Prelude.{◌≡◌};
 ghost use Rattle.xn_model.specs.Results.{Lends};
 ghost use Rattle.std.specs.Option.{option_copied};
 ghost use Rattle.xn_model.specs.Calls.{read_of, kind_of, root_of, pending_of};
+ghost use Rattle.xn_model.specs.PendingIn.{newest_entry_of, pending_in_of};
 ghost use Rattle.templates.specs.Tables.{TellsTemplate};
 ghost use Rattle.xn_state.specs.States.{own_types};
 
 use crate::state::State;
-use edit_list::Fs;
+use edit_list::{EditId, Fs};
 use templates::{Template, root_slot};
 use xn_model::Refusal;
 
@@ -60,5 +61,19 @@ impl State {
         ensures { result ≡ pending_of self.now fs.number }
     {
         self.lives.pending_for(fs)
+    }
+
+    /// How many entries of a block are pending.
+    pub fn pending_in(&self, block: u32) -> u32
+        ensures { result ≡ pending_in_of self.now block }
+    {
+        self.lives.pending(block) as u32
+    }
+
+    /// The number of the newest pending entry of a block, `None` where nothing is pending there.
+    pub fn newest_entry(&self, block: u32) -> Option<EditId>
+        ensures { result ≡ newest_entry_of self.now block }
+    {
+        self.lives.newest_entry(block)
     }
 }

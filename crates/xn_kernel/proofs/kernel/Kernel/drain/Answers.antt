@@ -12,11 +12,11 @@ loop-writes-init g c =
 pub returns-in_default-clause-done : goal.returns-in_default-clause-done
 returns-in_default-clause-done g c =
     let state = c.loop-writes.self.state in
-    none_pending (own_types state) state c.rules.ensures.rules c.loop-writes.invariant.2 (sym c.pick.ensures ∙ c.in_default.is)
+    none_pending (own_types state) state c.keeps_rules.ensures.rules c.loop-writes.invariant.2 (sym c.pick.ensures ∙ c.in_default.is)
 
 pub loop-writes-preserved : goal.loop-writes-preserved
 loop-writes-preserved g c =
-    let left = round_ends g.L.Lane.bytes_of g.L.Lane.crash_leaves g.L.Lane.faults_of g.L.Lane.write_gives g.L.Lane.sync_gives g.L.Lane.read_gives c.loop-writes.self c.round.new.self c.rules.ensures c.loop-writes.invariant.2 c.in_default-round.ensures.ok in
+    let left = round_ends g.L.Lane.bytes_of g.L.Lane.crash_leaves g.L.Lane.faults_of g.L.Lane.write_gives g.L.Lane.sync_gives g.L.Lane.read_gives c.loop-writes.self c.round.new.self c.keeps_rules.ensures c.loop-writes.invariant.2 c.in_default-round.ensures.ok in
     let few = c.loop-writes.invariant.3 in
     let less = left.1 in (
       rounds_more g.L.Lane.bytes_of g.L.Lane.crash_leaves g.L.Lane.faults_of g.L.Lane.write_gives g.L.Lane.sync_gives g.L.Lane.read_gives c.loop-writes.writes c.args.self.now c.loop-writes.self c.round.new.self c.loop-writes.invariant.0 c.in_default-round.ensures.ok,

@@ -30,7 +30,7 @@ returns-then-end-eq0-clause-done g c early =
     let old = c.loop-waves.self in
     let none = none_begun g.L.Lane.bytes_of g.L.Lane.faults_of g.L.Lane.write_gives g.L.Lane.sync_gives g.L.Lane.read_gives c.wave-end.result.blocks 256 c.wave-end.result.durable old c.loop-waves.failed.items c.wave-end.new.self c.wave-end.new.failed.items
     c.if-end-eq0.true (omega arith) c.wave-end.ensures.wave in
-    ap (λ (k : KernelValue g.row.L.Denot). all_pending k.state.lives) none.0 ∙ none_pending (own_types old.state) old.state c.rules.ensures.rules c.loop-waves.invariant.idle none.1
+    ap (λ (k : KernelValue g.row.L.Denot). all_pending k.state.lives) none.0 ∙ none_pending (own_types old.state) old.state c.keeps_rules.ensures.rules c.loop-waves.invariant.idle none.1
 
 pub loop-waves-preserved : goal.loop-waves-preserved
 loop-waves-preserved g c =
@@ -42,7 +42,7 @@ loop-waves-preserved g c =
     let within = c.wave-end.ensures.durable in
     let all : durable ≡ blocks = omega (arith, within, c.if-end.false) in
     let some : 1 ≤ blocks = omega (arith, c.if-end-eq0.false) in
-    let rules = c.rules.ensures.rules in
+    let rules = c.keeps_rules.ensures.rules in
     let wave = c.wave-end.ensures.wave in
     let whole = is_whole g.L.Lane.bytes_of g.L.Lane.faults_of g.L.Lane.write_gives g.L.Lane.sync_gives g.L.Lane.read_gives blocks durable old c.loop-waves.failed.items new c.wave-end.new.failed.items rules wave all some before.none_failed in
     let same = same_flights g.L.Lane.bytes_of g.L.Lane.faults_of g.L.Lane.write_gives g.L.Lane.sync_gives g.L.Lane.read_gives blocks durable old c.loop-waves.failed.items new c.wave-end.new.failed.items rules wave all some in

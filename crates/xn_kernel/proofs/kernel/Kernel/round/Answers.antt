@@ -12,13 +12,13 @@ unreachable-requires g c =
 
 pub returns-in_default-sync-clause-err : goal.returns-in_default-sync-clause-err
 returns-in_default-sync-clause-err g c =
-    let w = wrote _ _ _ _ _ _ c.args.block c.in-Ok.ticket _ _ c.rules.ensures c.requires.picked c.in-Ok.ensures.state c.in-Ok.ensures.ticket c.in-Ok.ensures.lanes
+    let w = wrote _ _ _ _ _ _ c.args.block c.in-Ok.ticket _ _ c.keeps_rules.ensures c.requires.picked c.in-Ok.ensures.state c.in-Ok.ensures.ticket c.in-Ok.ensures.lanes
     c.land-landed.ensures.ticket c.land-landed.ensures.landed c.land-landed.ensures.old_or_new c.land-landed.ensures.faults_err c.land-landed.ensures.gives in
     (refl, inl (ends_unsynced _ _ _ _ _ _ _ _ _ _ w c.in_default-sync.field-0 c.sync.new.self c.in_default-sync.ensures.gives c.in_default-sync.ensures.faults_err c.in_default-sync.ensures.bytes c.in_default-sync.ensures.err))
 
 pub returns-in-Err-clause-err : goal.returns-in-Err-clause-err
 returns-in-Err-clause-err g c =
-    let w = wrote _ _ _ _ _ _ c.args.block c.in-Ok.ticket _ _ c.rules.ensures c.requires.picked c.in-Ok.ensures.state c.in-Ok.ensures.ticket c.in-Ok.ensures.lanes
+    let w = wrote _ _ _ _ _ _ c.args.block c.in-Ok.ticket _ _ c.keeps_rules.ensures c.requires.picked c.in-Ok.ensures.state c.in-Ok.ensures.ticket c.in-Ok.ensures.lanes
     c.land-landed.ensures.ticket c.land-landed.ensures.landed c.land-landed.ensures.old_or_new c.land-landed.ensures.faults_err c.land-landed.ensures.gives in (
       refl,
       inr (finish_refused _ _ _ _ _ _ _ _ _ _ w c.sync.new.self.lane c.in-Ok-sync.ensures.gives c.in-Ok-sync.ensures.bytes c.sync.new.self c.in-Ok-sync.ensures.ok
@@ -27,7 +27,7 @@ returns-in-Err-clause-err g c =
 
 pub returns-then-landed-gt0-clause-ok : goal.returns-then-landed-gt0-clause-ok
 returns-then-landed-gt0-clause-ok g c =
-    let w = wrote _ _ _ _ _ _ c.args.block c.in-Ok.ticket _ _ c.rules.ensures c.requires.picked c.in-Ok.ensures.state c.in-Ok.ensures.ticket c.in-Ok.ensures.lanes
+    let w = wrote _ _ _ _ _ _ c.args.block c.in-Ok.ticket _ _ c.keeps_rules.ensures c.requires.picked c.in-Ok.ensures.state c.in-Ok.ensures.ticket c.in-Ok.ensures.lanes
     c.land-landed.ensures.ticket c.land-landed.ensures.landed c.land-landed.ensures.old_or_new c.land-landed.ensures.faults_err c.land-landed.ensures.gives in
     let given = c.in-Ok-finish.ensures.given in
     let done = finish_done _ _ _ _ _ _ _ _ _ _ w c.sync.new.self.lane c.in-Ok-sync.ensures.gives c.in-Ok-sync.ensures.bytes c.sync.new.self c.in-Ok-sync.ensures.ok
@@ -36,7 +36,7 @@ returns-then-landed-gt0-clause-ok g c =
 
 pub returns-else-landed-gt0-clause-err : goal.returns-else-landed-gt0-clause-err
 returns-else-landed-gt0-clause-err g c =
-    let w = wrote _ _ _ _ _ _ c.args.block c.in-Ok.ticket _ _ c.rules.ensures c.requires.picked c.in-Ok.ensures.state c.in-Ok.ensures.ticket c.in-Ok.ensures.lanes
+    let w = wrote _ _ _ _ _ _ c.args.block c.in-Ok.ticket _ _ c.keeps_rules.ensures c.requires.picked c.in-Ok.ensures.state c.in-Ok.ensures.ticket c.in-Ok.ensures.lanes
     c.land-landed.ensures.ticket c.land-landed.ensures.landed c.land-landed.ensures.old_or_new c.land-landed.ensures.faults_err c.land-landed.ensures.gives in
     let given = c.in-Ok-finish.ensures.given in
     let done = finish_done _ _ _ _ _ _ _ _ _ _ w c.sync.new.self.lane c.in-Ok-sync.ensures.gives c.in-Ok-sync.ensures.bytes c.sync.new.self c.in-Ok-sync.ensures.ok

@@ -1,5 +1,9 @@
-use Rattle.xn_state.proofs.ForCallers.{forget_types}
+use Rattle.xn_state.specs.States.{own_types}
+use Rattle.shared.proofs.Keeping.{forget_below}
 use Rattle.shared.proofs.hub.store.HubStore.forget.Goals as goal
 
-pub returns-clause-types : goal.returns-clause-types
-returns-clause-types g c = forget_types c.args.self.now.kernel.state c.forget-done.new.self.kernel.state c.keeps_rules.ensures.rules c.args.fs.number c.args.block c.forget-done.result c.forget-done.ensures.state
+pub invariant_of-self : goal.invariant_of-self
+invariant_of-self g c =
+    let old = c.self.inside.kernel.state in
+    let new = c.forget.new.self.state in
+    (c.self.invariant.0, c.self.invariant.1, forget_below c.self.inside.publisher.seen (own_types old) old new c.args.fs.number c.args.block c.forget.result c.self.invariant.2 c.forget.ensures.state)

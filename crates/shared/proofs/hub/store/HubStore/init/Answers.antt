@@ -1,5 +1,9 @@
-use Rattle.xn_state.proofs.ForCallers.{init_types}
+use Rattle.xn_state.specs.States.{own_types}
+use Rattle.shared.proofs.Keeping.{init_below}
 use Rattle.shared.proofs.hub.store.HubStore.init.Goals as goal
 
-pub returns-clause-types : goal.returns-clause-types
-returns-clause-types g c = init_types c.args.self.now.kernel.state c.init-made.new.self.kernel.state c.keeps_rules.ensures.rules c.args.fs.number c.args.ty c.args.bytes.now c.init-made.result c.init-made.ensures.state
+pub invariant_of-self : goal.invariant_of-self
+invariant_of-self g c =
+    let old = c.self.inside.kernel.state in
+    let new = c.init.new.self.state in
+    (c.self.invariant.0, c.self.invariant.1, init_below c.self.inside.publisher.seen (own_types old) old new c.args.fs.number c.args.ty c.args.bytes.now c.init.result c.self.invariant.2 c.init.ensures.state)

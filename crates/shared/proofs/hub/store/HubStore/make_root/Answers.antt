@@ -1,5 +1,8 @@
-use Rattle.xn_state.proofs.ForCallers.{make_root_types}
+use Rattle.shared.proofs.Keeping.{make_root_below}
 use Rattle.shared.proofs.hub.store.HubStore.make_root.Goals as goal
 
-pub returns-clause-types : goal.returns-clause-types
-returns-clause-types g c = make_root_types c.args.self.now.kernel.state c.make_root-made.new.self.kernel.state c.keeps_rules.ensures.rules c.args.fs.number c.args.block c.make_root-made.result c.args.fs.few c.make_root-made.ensures.state
+pub invariant_of-self : goal.invariant_of-self
+invariant_of-self g c =
+    let old = c.self.inside.kernel.state in
+    let new = c.make_root.new.self.state in
+    (c.self.invariant.0, c.self.invariant.1, make_root_below c.self.inside.publisher.seen old new c.args.fs.number c.args.block c.make_root.result c.self.invariant.2 c.make_root.ensures.state)

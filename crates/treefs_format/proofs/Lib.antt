@@ -1,0 +1,12 @@
+pub mod Levels
+pub mod Entries
+pub mod KnownTemplates
+pub mod Turns
+pub mod OwnedPairs
+pub mod Parsed
+pub mod Made
+pub mod Loops
+pub mod Puts
+pub mod Changes
+pub mod PathsOfLeaves
+pub mod ForCallers

@@ -1,0 +1,14 @@
+pub mod Numbers
+pub mod Fields
+pub mod Inodes
+pub mod Nodes
+pub mod Paths
+pub mod Leaves
+pub mod Places
+pub mod Names
+pub mod Records
+pub mod Buckets
+pub mod Candidates
+pub mod Roots
+pub mod Templates
+pub mod Left

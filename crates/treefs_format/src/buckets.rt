@@ -1,0 +1,128 @@
+// Buckets of names: 384 or 512 bytes that begin with records.
+
+ghost use Rattle.std.specs.Prelude.{◌≡◌, ◌+◌, ◌≤◌, length, IfOk, option_map};
+ghost use Rattle.std.specs.Int.{w32, to_le_bytes};
+ghost use Rattle.treefs_format.specs.Buckets.{dead_record, live_entries, live_record, other_record, rewritten, room_behind, room_without};
+ghost use Rattle.treefs_format.specs.Left.{record_of};
+ghost use Rattle.treefs_format.specs.Records.{end_of, entry_bytes, total_length};
+
+use crate::records::{RECORD_HEAD, Record, Records, append_record};
+use edit_list::Patch;
+use std::alloc::{AllocError, Global};
+
+/// The place behind the last record of a bucket.
+pub fn end(bucket: &[u8]) -> usize
+    requires { length bucket.now ≤ 512 }
+    ensures end { result ≡ end_of bucket.now }
+    ensures within { result ≤ length bucket.now }
+{
+    let mut end = 0;
+    for record in Records::new(bucket) {
+        end += RECORD_HEAD + record.name.len();
+    }
+    end
+}
+
+/// How many bytes are left behind the records of a bucket.
+pub fn room_behind(bucket: &[u8]) -> usize
+    requires { length bucket.now ≤ 512 }
+    ensures { result ≡ room_behind bucket.now }
+{
+    bucket.len() - end(bucket)
+}
+
+/// How many bytes would be left behind the records of a bucket, were it without the dead ones.
+pub fn room_without(bucket: &[u8]) -> usize
+    requires { length bucket.now ≤ 512 }
+    ensures { result ≡ room_without bucket.now }
+{
+    bucket.len() - live_length(bucket)
+}
+
+/// How many bytes the live records of a bucket have.
+fn live_length(bucket: &[u8]) -> usize
+    requires { length bucket.now ≤ 512 }
+    ensures length { result ≡ total_length (live_entries bucket.now) }
+    ensures within { result ≤ length bucket.now }
+{
+    let mut total = 0;
+    for record in Records::new(bucket) {
+        if record.number != 0 {
+            total += RECORD_HEAD + record.name.len();
+        }
+    }
+    total
+}
+
+/// The first live record of a name.
+pub fn live_record<'a>(bucket: &'a [u8], name: &[u8]) -> Option<Record<'a>>
+    requires { length bucket.now ≤ 512 }
+    ensures { option_map record_of result ≡ live_record bucket.now name.now }
+{
+    Records::new(bucket).find(|record| record.number != 0 && record.name == name)
+}
+
+/// The first dead record of a name.
+pub fn dead_record<'a>(bucket: &'a [u8], name: &[u8]) -> Option<Record<'a>>
+    requires { length bucket.now ≤ 512 }
+    ensures { option_map record_of result ≡ dead_record bucket.now name.now }
+{
+    Records::new(bucket).find(|record| record.number == 0 && record.name == name)
+}
+
+/// The first record with a number but for the one at a place.
+pub fn other_record(bucket: &[u8], number: u32, place: usize) -> Option<Record<'_>>
+    requires { length bucket.now ≤ 512 }
+    ensures { option_map record_of result ≡ other_record bucket.now number place }
+{
+    Records::new(bucket).find(|record| record.number == number && record.offset != place)
+}
+
+/// The patch that writes the live records of a bucket anew, in their order, and zeros behind them up to the end of the old records.
+/// `offset` is the byte of the block at which the bucket begins. `Err` comes only for want of memory.
+pub fn rewrite(alloc: Global, offset: usize, bucket: &[u8]) -> Result<Patch, AllocError>
+    requires { offset + length bucket.now ≤ 512 }
+    ensures { IfOk result (λ patch. patch ≡ record { offset = offset; bytes = rewritten bucket.now }) }
+{
+    let mut bytes = Vec::new(alloc);
+    for record in Records::new(bucket) {
+        if record.number != 0 {
+            append_record(&mut bytes, record.number, record.name)?;
+        }
+    }
+    bytes.resize(end(bucket), 0)?;
+    Ok(Patch {
+        offset: offset as u16,
+        bytes,
+    })
+}
+
+/// The patch that makes a record at a byte of a block. `Err` comes only for want of memory.
+pub fn make_record(
+    alloc: Global,
+    offset: usize,
+    number: u32,
+    name: &[u8],
+) -> Result<Patch, AllocError>
+    requires long { length name.now ≤ 255 }
+    requires within { offset + 5 + length name.now ≤ 512 }
+    ensures { IfOk result (λ patch. patch ≡ record { offset = offset; bytes = entry_bytes (record { number = number; name = name.now }) }) }
+{
+    let mut bytes = Vec::new(alloc);
+    append_record(&mut bytes, number, name)?;
+    Ok(Patch {
+        offset: offset as u16,
+        bytes,
+    })
+}
+
+/// The patch that sets the number of the record that begins at a byte of a block. `Err` comes only for want of memory.
+pub fn set_number(alloc: Global, offset: usize, number: u32) -> Result<Patch, AllocError>
+    requires { offset + 4 ≤ 512 }
+    ensures { IfOk result (λ patch. patch ≡ record { offset = offset; bytes = to_le_bytes w32 number }) }
+{
+    Ok(Patch {
+        offset: offset as u16,
+        bytes: number.to_le_bytes().to_vec(alloc)?,
+    })
+}

@@ -1,0 +1,12 @@
+pub mod Files
+pub mod Changes
+pub mod Reading
+pub mod Acts
+pub mod Edited
+pub mod Places
+pub mod Links
+pub mod Tables
+pub mod Follows
+pub mod Led
+pub mod Single
+pub mod Trees
