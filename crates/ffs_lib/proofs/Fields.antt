@@ -59,7 +59,7 @@ pub free_mode : inode_mode (replicate 64 0) ≡ 0
 unfolding half_at
 free_mode = refl
 
--- the inodes of a block of zero_block
+-- the inodes of a block of zeros
 pub zeros_inode : (p : ℕ) → p < 8 → inode_at zero_block p ≡ replicate 64 0
 zeros_inode p few = ap (take 64) (drop-replicate (64 * p) 512 0) ∙ take-replicate 64 (512 - 64 * p) 0 (omega (arith, few))
 

@@ -152,7 +152,7 @@ module _ (m : List ℕ) (long : length m ≡ 512) (p : ℕ) (few : p < 16) (n : 
         (ap (λ (t : Bool). if t then None else Some (record { block = b; place = p; inode = half_at m (32 * p) }, name_in m (32 * p))) (eq-eqb (half_at m (32 * p)) 0 empty))
         listed_here listed_apart 16 0 (omega arith) (omega (arith, few))
 
--- no entry in zero_block
+-- no entry in zeros
 none_listed : (b : ℕ) (xs : List ℕ) → filter_map (listed_at b zero_block) xs ≡ []
 none_listed b [] = refl
 none_listed b (x ∷ xs) =

@@ -86,7 +86,7 @@ taken_edits content fs n after next =
 abbrev pub removed_edits : (ℕ → List ℕ) → ℕ → Slot → Option ℕ → ℕ → Edits
 removed_edits content fs slot after next = clear_edit slot after ∷ taken_edits content fs slot.inode next (next + 1)
 
--- What depends on the newest_block bytes where it begins
+-- What depends on the newest bytes where it begins
 
 -- edits; or a block is begun, and then an edit proposed of another one, which comes to own it
 pub data Action : Type 0 where

@@ -95,7 +95,7 @@ LeftByRepair old new fs n (SetLinks links) = AsBefore old new fs n
 
 -- One inode
 
--- kept as it is, or free, which is 64 zero_block, or with so many links and all else as before
+-- kept as it is, or free, which is 64 zeros, or with so many links and all else as before
 abbrev pub Repaired : (ℕ → List ℕ) → (ℕ → List ℕ) → ℕ → ℕ → Repair → Type 0
 Repaired old new fs n Keep = SameInode old new fs n
 Repaired old new fs n GiveUp = (inode_in new fs n ≡ Err NoEntry) × (place_in new fs n ≡ Ok (replicate 64 0))

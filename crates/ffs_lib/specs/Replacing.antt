@@ -92,7 +92,7 @@ KeepsPairs fs old new =
     (first : Lives) (p : SlotPair) (after : Option ℕ) → AreDirect (newest_block old) fs p → StayNamed library_layout first old.lives p after →
     StayNamed library_layout first new.lives p after
 
--- In every cut that has the second entry's block as it was newest_block at the call, or later, this entry names one of the two files; and in every one that
+-- In every cut that has the second entry's block as it was newest at the call, or later, this entry names one of the two files; and in every one that
 -- has both blocks so, one of the entries names the moved one.
 abbrev pub NamesStand : StoreState → StoreState → Slot → Slot → Type 0
 NamesStand old new from to = AreNamed library_layout old.lives new.lives (pair_of from to)

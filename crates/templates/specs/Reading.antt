@@ -15,7 +15,7 @@ use Rattle.templates.specs.declared.fault.TemplateFault.{TemplateFault}
 use Rattle.templates.specs.declared.fault.TemplateFault.TheVariants.{BadMark, BadCode, NotVerified, BytesAfter}
 use Rattle.templates.specs.Templates.{TemplateValue, template_mark}
 
--- a fault, unless a fault_unless is met
+-- a fault, unless a condition is met
 abbrev pub fault_unless : Bool → TemplateFault → Result (Unit {0}) TemplateFault
 fault_unless met fault = if met then Ok (tt {0}) else Err fault
 

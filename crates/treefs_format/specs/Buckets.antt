@@ -3,7 +3,7 @@
 --     room_behind bytes      how many bytes are left behind the records
 --     room_without bytes     and without the dead ones
 --     live_record, dead_record    the first record of a name that is live, or dead
---     other_record           the first live record of a number, but for the one at a place
+--     other_record           the first record of a number, but for the one at a place
 --     rewritten bytes        the live records in their order, and zeros up to the old end
 --     made, with_number      a bucket with a record made behind the others; with the number of one set
 use Rattle.std.specs.Prelude.{ℕ, ◌-◌, ◌==◌, Bool, not, ◌&&◌, List, ◌++◌, length, drop, filter, find, Option, bytes_eq, if◌then◌else◌}

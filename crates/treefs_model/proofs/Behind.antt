@@ -8,7 +8,8 @@ use Rattle.xn_model.specs.Lives.{BlockState, Life, StoreState, life_at}
 use Rattle.xn_model.specs.Rules.{IsConsistent, Rises}
 use Rattle.xn_model.proofs.ForCallers.{Contains-cons, Contains-none, last_of}
 use Rattle.ffs_model.specs.Cuts.{Choice, IsFullAt, TakesAny}
-use Rattle.treefs_model.specs.Acts.{behind_of, last_pending}
+use Rattle.xn_model.specs.PendingIn.{newest_entry}
+use Rattle.treefs_model.specs.Acts.{behind_of}
 use Rattle.treefs_model.specs.Edited.{FullBehind}
 
 rises_tail : (x : BlockState) (xs : List BlockState) → Rises (x ∷ xs) → Rises xs
@@ -33,7 +34,7 @@ last_taken (suc n) (x ∷ y ∷ xs) t h e i = elim (Contains-cons x (take n (y �
 ]
 
 module _ (T : Types) (state : StoreState) (h : IsConsistent T state) (k : Choice) where
-  full_at : (y : ℕ) (o : Option Life) → life_at state.lives y ≡ o → TakesAny state.lives k (last_pending o) → IsFullAt state.lives k y
+  full_at : (y : ℕ) (o : Option Life) → life_at state.lives y ≡ o → TakesAny state.lives k (newest_entry o) → IsFullAt state.lives k y
   full_at y None e t m f = absurd (none-some m (sym e ∙ f))
   full_at y (Some l) e t m f = subst (λ (x : Life). length x.pending ≤ k y) (same_Some l m (sym e ∙ f)) (go (last_or None l.pending) refl t)
     where

@@ -1,12 +1,12 @@
 -- How many live records of a number a bucket has, once a record is made, numbered or written anew; and which names.
-use Rattle.std.proofs.Common.{◌≡◌, ℕ, ◌+◌, ◌<◌, ◌^◌, Bool, true, false, cond, not, ◌&&◌, ◌||◌, List, [], ◌∷◌, ◌++◌, refl, sym, ◌∙◌, ap, arith}
-use Rattle.std.specs.Prelude.{All, Contains, IsTrue, bytes_eq, count_by, filter, ◌==◌}
+use Rattle.std.proofs.Common.{◌≡◌, ℕ, ◌+◌, ◌<◌, ◌^◌, Bool, true, false, cond, ◌&&◌, ◌||◌, List, [], ◌∷◌, ◌++◌, refl, sym, ◌∙◌, ap, arith}
+use Rattle.std.specs.Prelude.{All, Contains, IsTrue, bytes_eq, filter, ◌==◌}
 use Rattle.std.proofs.lemmas.List.Folds.{list_any-append}
 use Rattle.std.proofs.lemmas.List.Sums.{sum_by-append, sum_by-cons}
 use Rattle.xn_model.specs.Lists.{put}
 use Rattle.treefs_format.specs.Buckets.{is_whole, made, rewritten, with_number}
 use Rattle.treefs_format.specs.Records.{Entry, Record, entries_of, is_live, records_of}
-use Rattle.treefs_format.proofs.ForCallers.{Fits, IsByte, Renumbered, made_read, numbered, renumbered_entries, rewritten_read}
+use Rattle.treefs_format.proofs.ForCallers.{Fits, IsByte, made_read, numbered, renumbered_entries, rewritten_read}
 use Rattle.treefs_model.specs.Trees.{counted, has_name, live_count}
 
 one_more : (n : ℕ) (es : List Entry) (e : Entry) → live_count n (es ++ e ∷ []) ≡ live_count n es + counted n e

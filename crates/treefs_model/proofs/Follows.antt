@@ -35,7 +35,7 @@ along_others fs old new kept source source' those those' src were v k x m t cut 
     let z = c.sees x m f w.1 in
     z.took t i (v c.choice x z.life t c.cut (src k cut s) z.alive (z.fewer t i) w.0)
 
--- I4b, I5c over the last edit of a call, an edit of the inode behind block y: in a cut that is full at the inode, what counts was so before, or is of the inode, of y, of
+-- Over the last edit of a call, an edit of the inode behind block y: in a cut that is full at the inode, what counts was so before, or is of the inode, of y, of
 -- a block that is dropped, or one that is added and has nothing pending but what began it
 module _ (T : Types) (act : Act) (old new : Lives) (number : ℕ) (e : Edited T act old new number) (those those' : ℕ → BlockState → Type 0) where
   pub last_edit : ((x : ℕ) (t : BlockState) → those' x t → those x t ⊎ ((x ≡ act.block) ⊎ ((act.behind ≡ Some x) ⊎ Contains act.edit.drops x))) →

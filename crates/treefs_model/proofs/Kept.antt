@@ -1,4 +1,4 @@
--- What is led to stays so: I6a over an edit that makes a record, and over one that ends one.
+-- What is led to stays so, over an edit that makes a record, and over one that ends one.
 use Rattle.std.proofs.Common.{◌≡◌, ℕ, ◌⊎◌, List, inl, inr, sym, subst}
 use Rattle.std.specs.Prelude.{◌≢◌}
 use Rattle.xn_model.specs.Types.{Types}

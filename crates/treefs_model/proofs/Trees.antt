@@ -1,8 +1,7 @@
 -- The pointers of nodes and inodes are what their types own.
-use Rattle.std.proofs.Common.{◌≡◌, ◌≢◌, ℕ, zero, suc, ◌+◌, ◌*◌, ◌-◌, ◌/◌, ◌%◌, ◌<◌, ◌≤◌, ◌⊎◌, Bool, true, false, cond, not, ◌&&◌, ◌||◌, List, [], ◌∷◌, ◌++◌, length, take, drop, get_or, refl, sym, ◌∙◌, ap, inl, inr, arith, subst, get_or-take, get_or-drop}
-use Rattle.std.specs.Prelude.{Contains, IsTrue, count_by, Some, None, nat_le, nat_lt, ◌==◌, if◌then◌else◌, slice_index}
+use Rattle.std.proofs.Common.{◌≡◌, ◌≢◌, ℕ, zero, suc, ◌+◌, ◌*◌, ◌-◌, ◌/◌, ◌%◌, ◌<◌, ◌≤◌, ◌⊎◌, Bool, true, false, cond, not, ◌&&◌, List, [], ◌∷◌, ◌++◌, length, take, drop, get_or, refl, sym, ◌∙◌, ap, inl, inr, arith, subst, get_or-take, get_or-drop}
+use Rattle.std.specs.Prelude.{Contains, IsTrue, Some, None, nat_le, nat_lt, ◌==◌, if◌then◌else◌, slice_index}
 use Rattle.std.specs.List.{cons_option}
-use Rattle.std.specs.Int.{w32, from_le_bytes}
 use Rattle.std.proofs.Math.Dec.{eqb-suc-zero}
 use Rattle.std.proofs.lemmas.Bool.{and_from, and_parts, cases_lt, eq-eqb, eqb-true, false≢true, le-leb, leb-true, lt-ltb, ltb-true, not-true, or_cases, or_left, or_right}
 use Rattle.std.proofs.lemmas.List.{drop-drop, length-drop, length-take, take-append-drop}
@@ -13,9 +12,8 @@ use Rattle.xn_model.specs.Types.{Types, fits, named_once, within_size}
 use Rattle.xn_model.proofs.ForCallers.{Contains-cons, Contains-head, Contains-none, Contains-tail, blocks_of_has, has_number_from}
 use Rattle.treefs_format.specs.Inodes.{pointers_of}
 use Rattle.treefs_format.specs.Nodes.{child_type_of, children_of}
-use Rattle.treefs_format.specs.Numbers.{words_at}
-use Rattle.treefs_format.specs.Records.{entries_of, is_live}
-use Rattle.treefs_format.specs.Templates.{IsTree, inode_pairs, node_pairs, with_type}
+use Rattle.treefs_format.specs.Records.{entries_of}
+use Rattle.treefs_format.specs.Templates.{IsTree, with_type}
 use Rattle.treefs_format.proofs.ForCallers.{blank_at, blank_drop, blank_none, length-words_at, no_length, words_get}
 use Rattle.treefs_model.specs.Tables.{ReadsTypes}
 use Rattle.treefs_model.specs.Trees.{Bucket, NoBucket, OfInode, OfLeaf, bucket_bytes, has_pointer, is_bare, live_count, records_at, is_inode_offset, is_node_offset, tree_pointer, tree_shape}
@@ -259,3 +257,31 @@ bare_records buckets n b m bare = ap (live_count n) (none (buckets b))
     none NoBucket = blank_none [] refl
     none OfInode = blank_none (drop 128 m) (subst (λ l. IsTrue (blank l)) (drop-drop 127 1 m) (blank_drop 127 (drop 1 m) bare))
     none OfLeaf = no_length m (sym (get_or-drop 1 m 3 0) ∙ blank_at (drop 1 m) 3 bare)
+
+-- Pointers, by their places
+
+pub inode_pointer : (node inode j : ℕ) (m : List ℕ) → j < 20 → tree_pointer node inode inode m (48 + 4 * j) ≡ slice_index (pointers_of m) j
+inode_pointer node inode j m lt = word_pointer node inode inode (48 + 4 * j) (slice_index (pointers_of m) j) m (inr (refl, j, lt, refl)) (sym (words_get m 48 20 j 0 lt))
+
+pub node_pointer : (node inode j : ℕ) (m : List ℕ) → j < 127 → tree_pointer node inode node m (4 + 4 * j) ≡ slice_index (children_of m) j
+node_pointer node inode j m lt = word_pointer node inode node (4 + 4 * j) (slice_index (children_of m) j) m (inl (refl, j, lt, refl)) (sym (words_get m 4 127 j 0 lt))
+
+-- the same pointers are read where the bytes have the same
+same_pointer : (node inode t o : ℕ) (m m' : List ℕ) → (Where node inode t o → word_at m' o ≡ word_at m o) → tree_pointer node inode t m' o ≡ tree_pointer node inode t m o
+same_pointer node inode t o m m' same = by (has_pointer node inode t o) refl
+  where
+    by : (b : Bool) → has_pointer node inode t o ≡ b → tree_pointer node inode t m' o ≡ tree_pointer node inode t m o
+    by true h = ap (λ b. if b then word_at m' o else 0) h ∙ (same (where_from node inode t o h) ∙ sym (ap (λ b. if b then word_at m o else 0) h))
+    by false h = ap (λ b. if b then word_at m' o else 0) h ∙ sym (ap (λ b. if b then word_at m o else 0) h)
+
+pub inode_same : (node inode o : ℕ) (m m' : List ℕ) → node ≢ inode → pointers_of m' ≡ pointers_of m → tree_pointer node inode inode m' o ≡ tree_pointer node inode inode m o
+inode_same node inode o m m' apart same = same_pointer node inode inode o m m' (λ place. elim place [
+  | inl a ↦ absurd (apart (sym a.0))
+  | inr b ↦ ap (word_at m') b.3 ∙ (sym (words_get m' 48 20 b.1 0 b.2) ∙ (ap (λ l. get_or l b.1 0) same ∙ (words_get m 48 20 b.1 0 b.2 ∙ sym (ap (word_at m) b.3))))
+])
+
+pub node_same : (node inode o : ℕ) (m m' : List ℕ) → node ≢ inode → children_of m' ≡ children_of m → tree_pointer node inode node m' o ≡ tree_pointer node inode node m o
+node_same node inode o m m' apart same = same_pointer node inode node o m m' (λ place. elim place [
+  | inl a ↦ ap (word_at m') a.3 ∙ (sym (words_get m' 4 127 a.1 0 a.2) ∙ (ap (λ l. get_or l a.1 0) same ∙ (words_get m 4 127 a.1 0 a.2 ∙ sym (ap (word_at m) a.3))))
+  | inr b ↦ absurd (apart b.0)
+])

@@ -1,15 +1,15 @@
 -- Edits as acts: an edit of a block, behind all that is pending in another block.
 --     Act                         a block, an edit of it, and the block behind which it stands
---     newest_entry_of, behind_of  the number of the newest pending entry of a block; that behind which an act stands
+--     behind_of                   the number of the entry behind which an act stands
 --     edit_in                     the edit that an act is, in the state where it is made
 --     Made, Ran                   an act was made, or refused; all were made in order, or the first of them, and the next one is refused
 --     patch_act, attach_act, wait_act, record_act, number_act, changes_act, content_act, bytes_act, drop_act     the kinds
-use Rattle.std.specs.Prelude.{◌≡◌, ◌⊎◌, ℕ, ◌*◌, List, [], ◌∷◌, map, replicate, slice_index, Option, None, Some, Result, Ok, Err, MatchResult, option_map}
-use Rattle.std.specs.List.{last_or}
+use Rattle.std.specs.Prelude.{◌≡◌, ◌⊎◌, ℕ, ◌*◌, List, [], ◌∷◌, map, replicate, slice_index, Option, None, Some, Result, Ok, Err, MatchResult}
 use Rattle.std.specs.Int.{w32, to_le_bytes}
 use Rattle.xn_model.specs.Types.{Types}
-use Rattle.xn_model.specs.Lives.{Life, StoreState, life_at}
+use Rattle.xn_model.specs.Lives.{StoreState}
 use Rattle.xn_model.specs.Calls.{Edit, Patch, propose_of}
+use Rattle.xn_model.specs.PendingIn.{newest_entry_of}
 use Rattle.xn_model.specs.Results.{Gives}
 use Rattle.xn_model.specs.declared.refusal.Refusal.{Refusal}
 use Rattle.treefs_format.specs.Fields.{changes_patch}
@@ -23,13 +23,6 @@ pub record Act : Type 0 where
   -- the entry that it comes after is found when it is made
   pub edit : Edit
   pub behind : Option ℕ
-
-abbrev pub last_pending : Option Life → Option ℕ
-last_pending None = None
-last_pending (Some l) = option_map (λ s. s.entry) (last_or None l.pending)
-
-abbrev pub newest_entry_of : StoreState → ℕ → Option ℕ
-newest_entry_of state b = last_pending (life_at state.lives b)
 
 abbrev pub behind_of : StoreState → Option ℕ → Option ℕ
 behind_of state None = None

@@ -1,5 +1,5 @@
 -- The files of a volume as a value: what each inode is, by its number, from 1 on. Inode 1 is the top directory. A name leads to a
--- number, and no number but 0 leads nowhere.
+-- number, or nowhere (`None`).
 --     Inode, Files            what an inode says, and its content; what each one is
 --     Content                 the bytes of a file or of a symbolic link; the names of a directory, and the directory in which it stands
 --     found, directory_at, file_at, number_in     look-ups, each with its faults in their order

@@ -1,7 +1,7 @@
 -- Names that lead to a number in a cut lead to it in each cut that takes more.
 --     Led E n         from inode 1, by edges from directories to numbers
 --     IsWithin        a cut takes all that another takes
---     StaysLed        I6a
+--     StaysLed        what names lead to in a cut they lead to in each one that takes all that it takes
 use Rattle.std.specs.Prelude.{◌≡◌, ◌≢◌, ◌⊎◌, ℕ, ◌≤◌, List, Some, length}
 use Rattle.xn_model.specs.Lives.{Life, Lives, life_at}
 use Rattle.ffs_model.specs.Cuts.{Choice, IsCut, latest, seen}
@@ -44,7 +44,7 @@ pub record Ends (E : (ℕ → List ℕ) → ℕ → ℕ → Type 0) (Same : Live
   pub newest : (x : ℕ) → Led (E (latest new)) x → Led (E (latest old)) x
   pub still : (k : Choice) → IsCut new k → TakesIt act old new k → Led (E (seen new k)) d → Led (E (seen new k)) n
 
--- I8, of a cut: a directory's record stands in its parent, but for the one that moves.
+-- In a cut, a directory's record stands in its parent, but for the one that moves.
 pub record HasParents (E : ℕ → ℕ → Type 0) (parent : ℕ → ℕ) (mover : ℕ) : Type 0 where
   pub one : (d c : ℕ) → E d c → c ≢ mover → d ≡ parent c
   -- inode 1 stands in itself

@@ -56,9 +56,9 @@ abbrev pub IsNamed : Layout → ℕ → Lives → ℕ → Type 0
 IsNamed L N lives n = (k : Choice) (b : ℕ) → IsCut lives k → b < N → 0 < L.records n b (seen lives k b) → L.leaf (seen lives k) n ≢ 0
 
 pub record KeepsLinks (L : Layout) (N : ℕ) (lives : Lives) (n : ℕ) : Type 0 where
-  -- I2
+  -- names lead: where a cut has a record of n, its pointers lead to an inode
   pub named : IsNamed L N lives n
-  -- I3
+  -- and links are enough: that inode's links are at least the records of n in the cut
   pub good : IsGood L N lives n
   pub tight : HasRoom L N lives None 0 n
 

@@ -31,10 +31,10 @@ pointer_at S lives content p o = S.pointer (type_at lives p) (content p) o
 pub record InPlace (S : Shape) (fs : ℕ) (covered held : ℕ → Type 0) (lives : Lives) : Type 0 where
   pub own : (x : ℕ) → covered x → IsOwn fs lives x
   pub counted : (x : ℕ) → held x → covered x
-  -- I1a: what points to a block in newest points to it, there, in each cut in which it is not empty
+  -- what points to a block in newest points to it, there, in each cut in which it is not empty
   pub reached : (k : Choice) (p o x : ℕ) → IsCut lives k → IsOwn fs lives p → covered x → pointer_at S lives (latest lives) p o ≡ x →
       (pointer_at S lives (seen lives k) p o ≡ x) ⊎ IsTrue (S.empty (seen lives k x))
-  -- I1b: and in each cut that is full at it
+  -- and in each cut that is full at it
   pub full : (k : Choice) (p o x : ℕ) → IsCut lives k → IsOwn fs lives p → held x → pointer_at S lives (latest lives) p o ≡ x → IsFullAt lives k x →
       pointer_at S lives (seen lives k) p o ≡ x
 

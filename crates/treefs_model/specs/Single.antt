@@ -1,6 +1,6 @@
 -- No directory has a name twice.
 --     Records       how a bucket's records are read
---     IsSingle      I7
+--     IsSingle      each cut has a name of a directory once
 --     KeepsSingle   what an edit does to the records of its block
 use Rattle.std.specs.Prelude.{◌≡◌, ◌≢◌, ◌⊎◌, ℕ, Bool, List, IsTrue}
 use Rattle.xn_model.specs.Lives.{Lives}

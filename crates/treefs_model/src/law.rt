@@ -1,6 +1,6 @@
 // What edits keep in every cut of the lives of a store.
 
-ghost use Rattle.std.specs.Prelude.{◌≡◌, ◌≢◌, ◌⊎◌, ◌∷◌, [], ◌+◌, ◌<◌, ℕ, Bool, List, Some, Result, Ok, Contains, IsTrue, ◌^◌, ◌||◌, All, length, bytes_eq};
+ghost use Rattle.std.specs.Prelude.{◌≡◌, ◌≢◌, ◌⊎◌, ◌∷◌, [], ◌+◌, ◌<◌, ℕ, Bool, List, Some, Result, Ok, Contains, IsTrue, ◌^◌, ◌||◌, All, length, bytes_eq, ◌*◌, slice_index};
 ghost use Rattle.xn_model.specs.Types.{Types};
 ghost use Rattle.xn_model.specs.Lives.{BlockState, Life, Lives, StoreState, life_at};
 ghost use Rattle.xn_model.specs.Rules.{IsConsistent};
@@ -8,7 +8,8 @@ ghost use Rattle.ffs_model.specs.Cuts.{Choice, IsCut, IsFullAt, latest, seen};
 ghost use Rattle.ffs_model.specs.Cuts.{KeptFrom};
 ghost use Rattle.ffs_model.specs.Edits.{HoldsOnly};
 ghost use Rattle.xn_model.specs.BareDisks.{zeros};
-ghost use Rattle.treefs_format.specs.Nodes.{node_bytes};
+ghost use Rattle.treefs_format.specs.Inodes.{pointers_of};
+ghost use Rattle.treefs_format.specs.Nodes.{children_of, node_bytes};
 ghost use Rattle.treefs_format.specs.Templates.{IsTree};
 ghost use Rattle.xn_model.specs.Lists.{put};
 ghost use Rattle.treefs_format.specs.Buckets.{is_whole, made, rewritten, with_number};
@@ -216,4 +217,14 @@ pub fn records_are_counted()
         has_name (entries_of (made bytes e)) name ≡ (has_name (entries_of bytes) name || bytes_eq e.name name) }
     ensures set_names { (bytes name : List ℕ) (r : Record) (number : ℕ) → All (λ b. b < 256) bytes → Contains (records_of bytes) r → number < 2 ^ 32 →
         has_name (entries_of (with_number bytes r.offset number)) name ≡ has_name (entries_of bytes) name }
+{}
+
+/// Which pointers of an inode or a node are read at which offsets; and where the pointers of the bytes are the same, the same are read at each offset.
+pub fn pointers_are_read()
+    ensures inode { (node inode j : ℕ) (m : List ℕ) → j < 20 → tree_pointer node inode inode m (48 + 4 * j) ≡ slice_index (pointers_of m) j }
+    ensures node { (node inode j : ℕ) (m : List ℕ) → j < 127 → tree_pointer node inode node m (4 + 4 * j) ≡ slice_index (children_of m) j }
+    ensures inode_same { (node inode o : ℕ) (m changed : List ℕ) → node ≢ inode → pointers_of changed ≡ pointers_of m →
+        tree_pointer node inode inode changed o ≡ tree_pointer node inode inode m o }
+    ensures node_same { (node inode o : ℕ) (m changed : List ℕ) → node ≢ inode → children_of changed ≡ children_of m →
+        tree_pointer node inode node changed o ≡ tree_pointer node inode node m o }
 {}

@@ -12,7 +12,7 @@ use Rattle.udf_verify.specs.Bounds.{demand, placed, size, no_register, bounds}
 use Rattle.udf_verify.specs.Verdict.{cost, emits, program_verdict, cost_limit, answer_fits}
 use Rattle.udf_verify.proofs.Parts.{bind_ok, placed_ok, demand_ok}
 
--- what a program_verdict that is Ok is
+-- what a verdict that is Ok is
 pub record IsGood (role : Role) (tree : Tree) (final : List Interval) : Type 0 where
   pub bounded : bounds role no_register 0 tree start ≡ Ok final
   pub few : emits tree ≤ 128

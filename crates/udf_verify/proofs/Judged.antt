@@ -1,4 +1,4 @@
--- The program_verdict, step by step.
+-- The verdict, step by step.
 use Rattle.std.proofs.Common.{◌≡◌, ℕ, ◌<◌, ◌≤◌, min, Bool, true, false, List, refl, sym, ap, ◌∙◌, subst, arith}
 use Rattle.std.specs.Prelude.{Result, Ok, Err, IsOk, nat_le, ◌↔◌}
 use Rattle.std.proofs.lemmas.Bool.{lt-leb, le-leb}

@@ -56,11 +56,11 @@ abbrev pub widen : (ℕ → Bool) → ℕ → List Interval → List Interval
 widen written r [] = []
 widen written r (i ∷ is) = (if written r then full else i) ∷ widen written (r + 1) is
 
--- without_end the number, where it is an end of the interval
+-- without the number, where it is an end of the interval
 abbrev pub without_end : ℕ → Interval → Interval
 without_end v i = if i.low == v then between (v + 1) i.high else (if i.high == v then between i.low (v - 1) else i)
 
--- without_end the one number of j, where j has one number
+-- without the one number of j, where j has one number
 abbrev pub apart : Interval → Interval → Interval
 apart i j = if j.low == j.high then without_end j.low i else i
 

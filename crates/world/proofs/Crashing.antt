@@ -18,7 +18,7 @@ use Rattle.world.proofs.Places.{place_at-same, place_at-other, full_get}
 abbrev Lanes : Type 0
 Lanes = List (Option MemoryLane)
 
--- The first lanes have crashed_lane
+-- The first lanes have crashed
 
 pub record CrashedTo (kept : List ℕ) (old new : Lanes) (n : ℕ) : Type 0 where
   pub count : length new ≡ length old

@@ -76,7 +76,7 @@ IsLong (Some lane) = length lane.bytes ≡ 512
 abbrev pub AreLong : List (Option MemoryLane) → Type 0
 AreLong lanes = (b : ℕ) → b < length lanes → IsLong (lane_at lanes b)
 
--- each lane has crashed_lane, and kept its open write where these blocks have it
+-- each lane has crashed, and kept its open write where these blocks have it
 pub record HaveCrashed (kept : List ℕ) (old new : List (Option MemoryLane)) : Type 0 where
   pub count : length new ≡ length old
   pub each : (b : ℕ) → lane_at new b ≡ option_map (λ lane. crashed_lane lane (has_number kept b)) (lane_at old b)

@@ -56,11 +56,7 @@ impl<A: Allocator> Drop for Running<A> {
 
 impl<A: Allocator> Running<A> {
     /// The disk of this kernel, with a place for each ticket.
-    pub(crate) fn new(
-        alloc: Global,
-        kernel: Kernel<MemLane<A>>,
-        tickets: Tickets<A>,
-    ) -> Running<A>
+    pub(crate) fn new(alloc: Global, kernel: Kernel<MemLane<A>>, tickets: Tickets<A>) -> Running<A>
         requires { IsWorld kernel tickets }
         ensures { result ≡ value_of kernel tickets }
     {

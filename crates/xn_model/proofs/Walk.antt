@@ -1,4 +1,4 @@
--- The mount_walk from block 0 finds the reached blocks of a sound image, each once.
+-- The walk from block 0 finds the reached blocks of a sound image, each once.
 use Rattle.std.proofs.Common.{◌≡◌, ℕ, zero, suc, ◌+◌, ◌<◌, ◌≤◌, ◌⊎◌, true, List, [], ◌∷◌, ◌++◌, length, Option, Some, None, refl, sym, ◌∙◌, ap, inl, inr, arith, subst, append_assoc, length-append}
 use Rattle.std.specs.Prelude.{Contains, IsTrue, flat_map, find, ◌==◌}
 use Rattle.std.specs.List.{range_with_len}
@@ -106,7 +106,7 @@ module _ (T : Types) (built_ins : HasBuiltIns T) (image : List (List ℕ)) (soun
       let one = sound.owner c t x u r n in
       (one.only a m.0 (owns a v x y q m)).0 ∙ sym (one.only c n.0 (owns c t x u r n)).0
 
-  -- The mount_walk
+  -- The walk
 
   record Walked (done todo : List Found) : Type 0 where
     reached : (f : Found) → Contains (done ++ todo) f → Reached f.block f.ty

@@ -327,7 +327,7 @@ cycle_row =
 
 -- Templates that are installed
 
--- block 0 may be write_row once the template's block is on the disk
+-- block 0 may be written once the template's block is on the disk
 abbrev pub installed_row : Row
 installed_row =
     ((Install (chain_bytes 3), Installed 3 1 1 2) ∷ (init_event 0 3 [], Started 2 3) ∷ (Client 0 (MakeRoot 2), Edited 4) ∷ [])
@@ -354,7 +354,7 @@ used_row =
     ∷ (Install (zeros 512), Refused BadTemplate)
     ∷ []))
 
--- a type is gone after a crash where block 0 is not write_row, and stays where it is
+-- a type is gone after a crash where block 0 is not written, and stays where it is
 abbrev pub gone_row : Row
 gone_row =
     ((Install (chain_bytes 3), Installed 3 1 1 2) ∷ [])

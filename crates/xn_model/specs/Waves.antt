@@ -1,5 +1,5 @@
--- Writes in waves, for a device where one sync settles all that was written_blocks before it: several blocks are begun, each is
--- written_blocks, each is synced, and each is read back.
+-- Writes in waves, for a device where one sync settles all that was written before it: several blocks are begun, each is
+-- written, each is synced, and each is read back.
 --     ready_blocks lives     the blocks that can be begun, rising
 --     IsWave lives blocks    a wave may take these blocks, in this order
 --     wave blocks            its events
@@ -306,7 +306,7 @@ pub record IsAfterWave (w : World) (outcome : ℕ → Outcome) (blocks : List �
   pub lives : (c : ℕ) → life_at after.state.lives c
       ≡ cond (has_number blocks c) (option_map (life_then (outcome c) (prefix w.state.lives c) (made_durable w outcome c)) (life_at w.state.lives c))
       (cond (has_number (all_drops w outcome blocks) c) None (life_at w.state.lives c))
-  -- only the blocks of the wave are written_blocks
+  -- only the blocks of the wave are written
   pub newest : (c : ℕ) → block_of after.image c
       ≡ cond (has_number blocks c) (newest_then (outcome c) (wave_bytes w.state.lives c) (block_of w.image c)) (block_of w.image c)
   pub settled : (c : ℕ) → block_of after.settled c

@@ -86,7 +86,7 @@ impl State {
 
     /// Installs the template in a block: the lowest free block begins a life of nobody, of type 1, with these bytes, and the lowest empty
     /// place of block 0's catalogue names it, as two entries of nobody. The type that this makes can be used at once; an entry that
-    /// adds a block of it waits until block 0 names the template on the disk. A template is never changed or removed (XN). Refused are,
+    /// adds a block of it waits until block 0 names the template on the disk. A template is never changed or removed. Refused are,
     /// in this order, a catalogue with 16 templates (`NoSlot`), 64 pending entries of block 0 (`TooManyPending`), fewer than two
     /// numbers left (`Exhausted`), no free block (`NoSpace`), bytes that are no template's block (`BadTemplate`), last
     /// `NoMemory`. A refusal changes nothing.

@@ -146,7 +146,7 @@ impl State {
     }
 
     /// The chunks that decide what a block of these bytes owns, where that has changed exactly as an edit claims, and each block
-    /// is named once. It takes a run only where the edit claims something or writes into a chunk that decides it.
+    /// is named once. It takes a run only where the edit claims something or writes into a chunk that decides it, or where these chunks are not known.
     fn claimed(&self, block: u32, ty: u32, new: &[u8; 512], edit: &Edit) -> Option<ReadSet>
         requires alive { IsTrue (is_some (life_at self.now.lives block)) }
         requires installed { IsTrue ((own_types self.now).installed ty) }

@@ -12,10 +12,10 @@ over-kernel-requires-clause-synced g c = lanes_synced c.self.inside.lanes c.self
 pub new-requires : goal.new-requires
 new-requires g c =
     known_world c.self.inside.lanes c.self.inside.tickets c.self.invariant c.args.self c.self.view_is c.requires.sound c.args.state c.requires.known
-    c.args.id c.over-kernel.result c.over-kernel.ensures
+    1 c.over-kernel.result c.over-kernel.ensures
 
 pub returns : goal.returns
 returns g c =
     c.new.ensures
     ∙ known_value c.self.inside.lanes c.self.inside.tickets c.self.invariant c.args.self c.self.view_is c.requires.sound c.args.state c.requires.known
-    c.args.id c.over-kernel.result c.over-kernel.ensures
+    1 c.over-kernel.result c.over-kernel.ensures
