@@ -5,7 +5,7 @@ use Rattle.xn_model.specs.Types.{Types}
 use Rattle.xn_model.specs.Lives.{Lives}
 use Rattle.ffs_model.specs.Cuts.{Choice, IsCut, IsFullAt, latest, seen}
 use Rattle.treefs_model.specs.Acts.{Act}
-use Rattle.treefs_model.specs.Edited.{Edited, LeavesIt, TakesIt}
+use Rattle.treefs_model.specs.Edited.{Edited, TakesIt}
 use Rattle.treefs_model.specs.Led.{Ends, HasParents, IsApart, IsWithin, Led, Makes, StaysLed, below, root, step, top}
 
 led_more : (E F : ℕ → ℕ → Type 0) → ((c x : ℕ) → E c x → F c x) → (n : ℕ) → Led E n → Led F n
@@ -14,13 +14,6 @@ led_more E F f n (step {d = d} up e) = step (led_more E F f d up) (f d n e)
 
 module _ (T : Types) (E : (ℕ → List ℕ) → ℕ → ℕ → Type 0) (Same : Lives → Choice → ℕ → Type 0) (act : Act) (old new : Lives) (number : ℕ) (e : Edited T act old new number)
     (within : (k j : Choice) → IsWithin new k j → IsWithin old k j × (IsFullAt new k act.block → IsFullAt new j act.block)) where
-  -- a cut that doesn't take it
-  same_led : (k : Choice) (n : ℕ) → LeavesIt act old new k → Led (E (seen new k)) n → Led (E (seen old k)) n
-  same_led k n l up = subst (λ v. Led (E v) n) l.same up
-
-  taken_too : (k j : Choice) → IsCut new j → IsWithin new k j → TakesIt act old new k → TakesIt act old new j
-  taken_too k j cut w t = elim (e.cuts j cut).case [ inl t' ↦ t' | inr l ↦ absurd (l.short ((within k j w).1 t.all)) ]
-
   module _ (d n : ℕ) (h : Makes E Same act old new d n) (v : StaysLed E Same old) where
     more_led : (k : Choice) (x : ℕ) → IsCut new k → Led (E (seen old k)) x → Led (E (seen new k)) x
     more_led k x cut up = led_more (E (seen old k)) (E (seen new k)) (λ c y. h.more k c y cut) x up
@@ -51,10 +44,12 @@ module _ (T : Types) (E : (ℕ → List ℕ) → ℕ → ℕ → Type 0) (Same :
           ]
         ] in
         elim z.case [
-          | inr l ↦ old_led (same_led k x l up)
+          | inr l ↦ old_led (subst (λ v. Led (E v) x) l.same up)
           | inl t ↦ elim (without k x cut t up) [
             | inl was ↦ old_led was
-            | inr new' ↦ subst (Led (E (seen new j))) (sym new'.0) (step (more_led j d cut' (v k j d z.cut z'.cut w' (h.same_d k cut t) new'.1 h.known)) (h.made j cut' (taken_too k j cut' w t)))
+            | inr new' ↦
+                let too : TakesIt act old new j = elim z'.case [ inl t' ↦ t' | inr l ↦ absurd (l.short ((within k j w).1 t.all)) ] in
+                subst (Led (E (seen new j))) (sym new'.0) (step (more_led j d cut' (v k j d z.cut z'.cut w' (h.same_d k cut t) new'.1 h.known)) (h.made j cut' too))
           ]
         ]
 

@@ -70,10 +70,6 @@ module _ (T : Types) (L : Layout) (N : ℕ) (act : Act) (old new : Lives) (numbe
   pub led_after : (k : Choice) → IsCut new k → IsLed L old k n → IsLed L new k n
   led_after k cut z = record { some = λ q. z.some (sym (h.table.cuts k cut) ∙ q); same = h.table.cuts k cut ∙ (z.same ∙ sym h.table.newest) }
 
-  -- the links of n's inode are the same, where it is another block
-  links_far : i ≢ b → links new ≡ links old
-  links_far ne = ap L.links (e.others i ne)
-
   -- m' links to spare, where there were m
   module _ (g : Option ℕ) (m : ℕ) (v : HasRoom L N old g m n) where
     pub room_keeps : (g' : Option ℕ) (m' : ℕ) → links old + y + m' ≤ links new + m + x →
@@ -95,7 +91,7 @@ module _ (T : Types) (L : Layout) (N : ℕ) (act : Act) (old new : Lives) (numbe
               let before = v k z.cut was u.1 in
               let sum = most_left k l in
               let fewer = u.0 in
-              let same = links_far far in
+              let same : links new ≡ links old = ap L.links (e.others i far) in
               omega arith
         ])
 

@@ -1,17 +1,16 @@
 -- The links of a number, read in another way; and what blocks in place say of the table.
 use Rattle.std.proofs.Common.{◌≡◌, ℕ, List, [], ◌∷◌, Option, None, refl, sym, ◌∙◌, ap, arith, subst}
-use Rattle.std.specs.Prelude.{◌≢◌, max, IsTrue}
+use Rattle.std.specs.Prelude.{◌≢◌, max}
 use Rattle.xn_model.specs.Types.{Types}
 use Rattle.xn_model.specs.Lives.{Lives, StoreState}
 use Rattle.xn_model.specs.Rules.{IsConsistent}
 use Rattle.ffs_model.specs.Cuts.{Choice, IsCut, IsFullAt, latest, seen}
 use Rattle.treefs_model.specs.Acts.{Act}
 use Rattle.treefs_model.specs.Edited.{Edited, IsOwn, type_at}
-use Rattle.treefs_model.specs.Places.{AllCovered, InPlace, Shape, at, pointer_at}
-use Rattle.treefs_model.specs.Links.{HasRoom, IsLed, IsLedFull, KeepsLinks, KeepsTable, Layout, ReadsAlike}
+use Rattle.treefs_model.specs.Places.{Shape, at, pointer_at}
+use Rattle.treefs_model.specs.Links.{HasRoom, IsLedFull, KeepsLinks, KeepsTable, Layout, ReadsAlike}
 use Rattle.treefs_model.specs.Tables.{table_layout}
 use Rattle.treefs_model.specs.Tables.{IsPointed, PassesBy, ReadsTypes, StaysAt}
-use Rattle.treefs_model.proofs.InPlace.{full_path}
 use Rattle.treefs_model.proofs.TableKeeps.{path_cut, path_newest}
 use Rattle.treefs_model.proofs.Total.{total_le}
 
@@ -47,15 +46,6 @@ at_types S old new types v top (o ∷ os) = ap (λ p. pointer_at S new v p o) (a
 module _ (T : Types) (S : Shape) (fs top : ℕ) (steps : ℕ → List ℕ) (records : ℕ → ℕ → List ℕ → ℕ) (links : List ℕ → ℕ) where
   abbrev L : Lives → Layout
   L lives = table_layout S lives top steps records links
-
-  -- a cut that is full at the holder of a number's pointer leads to the number
-  pub leads_full : (lives : Lives) (covered held : ℕ → Type 0) → InPlace S fs covered held lives → IsOwn fs lives top → ((m : List ℕ) → IsTrue (S.empty m) → (t o : ℕ) → S.pointer t m o ≡ 0) → ((x : ℕ) → covered x → x ≢ 0) →
-      (k : Choice) → IsCut lives k → (n o : ℕ) (os : List ℕ) → steps n ≡ o ∷ os → AllCovered covered S lives top os → ((o' : ℕ) (rest : List ℕ) → os ≡ o' ∷ rest → held (at S lives (latest lives) top os)) →
-      IsFullAt lives k (at S lives (latest lives) top os) → (L lives).leaf (latest lives) n ≢ 0 → IsLed (L lives) lives k n
-  leads_full lives covered held i mine bare some k cut n o os path all waited full used =
-      let same : at S lives (seen lives k) top (steps n) ≡ at S lives (latest lives) top (steps n) =
-      ap (at S lives (seen lives k) top) path ∙ (full_path S fs covered held lives i top mine bare some k cut os all waited full o ∙ ap (at S lives (latest lives) top) (sym path)) in
-      record { some = λ q. used (sym same ∙ q); same = same }
 
   -- an edit of a block by which the path passes leaves the table
   pub table_kept : ReadsTypes T S → (act : Act) (old new : StoreState) (number : ℕ) → IsConsistent T old → IsConsistent T new → (e : Edited T act old.lives new.lives number) → StaysAt S fs old.lives → IsPointed S old.lives act.block → act.block ≢ 0 →

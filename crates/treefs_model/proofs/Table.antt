@@ -49,15 +49,6 @@ module _ (T : Types) (S : Shape) (reads : ReadsTypes T S) (state : StoreState) (
       let n = reads.owned s.life.ty s.shows.bytes o x s.points some in
       (n.0, (h.lives_sound.each p s.life s.alive).named s.shows x n.0 (chosen_in k p s.life s.shows s.is) n.1)
 
-  pub to_all : (p o x : ℕ) → pointer_at S lives (latest lives) p o ≡ x → pointer_at S lives (seen lives (everything lives)) p o ≡ x
-  to_all p o x at' = ap (λ v. pointer_at S lives v p o) (everything_seen lives) ∙ at'
-
-  one_owner : (k : Choice) (p q o o' x : ℕ) → x ≢ 0 → pointer_at S lives (seen lives k) p o ≡ x → pointer_at S lives (latest lives) q o' ≡ x → p ≡ q
-  one_owner k p q o o' x some at' now =
-      let a = (belongs k p o x some at').1 in
-      let b = (belongs (everything lives) q o' x some (to_all q o' x now)).1 in
-      not_both x a.life.status p q a.holds.1 (subst (λ (l : Life). IsBy q l.status) (same_Some b.life a.life (sym b.alive ∙ a.alive)) b.holds.1)
-
   -- a block that a cut leads to, and that points to something in newest, is pointed to in newest
   still_pointed : (k : Choice) (p q o o' x : ℕ) → p ≢ 0 → pointer_at S lives (seen lives k) q o ≡ p → x ≢ 0 → pointer_at S lives (latest lives) p o' ≡ x → IsPointed S lives p
   still_pointed k p q o o' x some at' some' now = let b = (belongs k q o p some at').1 in owner k p q o o' x some at' some' now (belongs k q o p some at').0 b b.life.status refl
@@ -76,11 +67,14 @@ module _ (T : Types) (S : Shape) (reads : ReadsTypes T S) (state : StoreState) (
           let bytes : latest lives q ≡ m.last.bytes = ap (λ v. v q) (sym (everything_seen lives)) ∙ (ap (seen_at (everything lives) q) s.alive ∙ ap bytes_of (full_chosen (everything lives) q s.life (everything_full lives q s.life s.alive) ∙ m.is_last)) in
           (q, slot.0, (λ j. S.pointer (type_in (s.alive j)) (bytes j) slot.0) ∙ slot.1)
       owner k p q o o' x some at' some' now u b (Dropped a) e =
-          let s = shown (everything lives) p o' x some' (to_all p o' x now) in
+          let s = shown (everything lives) p o' x some' (ap (λ v. pointer_at S lives v p o') (everything_seen lives) ∙ now) in
           let n = reads.owned s.life.ty s.shows.bytes o' x s.points some' in
           let life : b.life ≡ s.life = same_Some b.life s.life (sym b.alive ∙ s.alive) in
           let is : newest s.life ≡ Some s.shows = sym (full_chosen (everything lives) p s.life (everything_full lives p s.life s.alive)) ∙ s.is in
           absurd (h.statuses.emptied p s.life a (x, n.0) s.alive (ap (λ (l : Life). l.status) (sym life) ∙ e) (subst (λ z. NamedIn T s.life.ty z (x, n.0)) (sym is) n.1))
+
+  pub to_all : (p o x : ℕ) → pointer_at S lives (latest lives) p o ≡ x → pointer_at S lives (seen lives (everything lives)) p o ≡ x
+  to_all p o x at' = ap (λ v. pointer_at S lives v p o) (everything_seen lives) ∙ at'
 
   -- What a cut leads to, and what is pointed to in newest, newest leads to by the same path
   module _ (fs : ℕ) (stays : StaysAt S fs lives) (top : ℕ) (k : Choice) (cut : IsCut lives k) (mine : (os : List ℕ) → at S lives (seen lives k) top os ≢ 0 → IsOwn fs lives (at S lives (seen lives k) top os))
@@ -91,7 +85,10 @@ module _ (T : Types) (S : Shape) (reads : ReadsTypes T S) (state : StoreState) (
       | inl none ↦ absurd (cc none)
       | inr now ↦
           let p : ℕ = at S lives (seen lives k) top os in
-          let owner : p ≡ now.0 = one_owner k p now.0 o now.1 x some at' now.2 in
+          let a = (belongs k p o x some at').1 in
+          let b = (belongs (everything lives) now.0 now.1 x some (to_all now.0 now.1 x now.2)).1 in
+          let by = subst (λ (l : Life). IsBy now.0 l.status) (same_Some b.life a.life (sym b.alive ∙ a.alive)) b.holds.1 in
+          let owner : p ≡ now.0 = not_both x a.life.status p now.0 a.holds.1 by in
           let there : p ≢ 0 = λ z. some (sym at' ∙ (ap (λ c. pointer_at S lives (seen lives k) c o) z ∙ root o)) in
           let now' : pointer_at S lives (latest lives) p now.1 ≡ x = ap (λ c. pointer_at S lives (latest lives) c now.1) owner ∙ now.2 in
           let offset : o ≡ now.1 = stays k p o now.1 x cut (mine os there) some at' now' in

@@ -31,15 +31,19 @@ not_some (suc n) f = absurd (f (omega arith))
 
 module _ (T : Types) (L : Layout) (N : ℕ) (act : Act) (old new : Lives) (number : ℕ) (e : Edited T act old new number) (within : act.block < N) (n : ℕ)
     (same : L.records n act.block (latest new act.block) ≡ L.records n act.block (latest old act.block)) (v : KeepsLinks L N old n) where
-  abbrev b : ℕ
-  b = act.block
-
   -- the records of n in a cut that takes it are as they were
   records_same : (k : Choice) → TakesIt act old new k → (c : ℕ) → L.records n c (seen new k c) ≡ L.records n c (seen old k c)
-  records_same k t c = elim (cases_eq c b) [
+  records_same k t c = elim (cases_eq c act.block) [
     | inr ne ↦ ap (L.records n c) (t.others c ne)
-    | inl q ↦ ap (λ d. L.records n d (seen new k d)) q ∙ (ap (L.records n b) (full_seen new k b t.all) ∙ (same ∙ (ap (L.records n b) (sym (full_seen old k b t.full)) ∙ ap (λ d. L.records n d (seen old k d)) (sym q))))
+    | inl q ↦
+        ap (λ d. L.records n d (seen new k d)) q
+        ∙ (ap (L.records n act.block) (full_seen new k act.block t.all)
+        ∙ (same
+        ∙ (ap (L.records n act.block) (sym (full_seen old k act.block t.full)) ∙ ap (λ d. L.records n d (seen old k d)) (sym q))))
   ]
+
+  abbrev b : ℕ
+  b = act.block
 
   -- An inode is attached
   module _ (i : ℕ) (h : InodeAttached L act old new n i) where

@@ -1,5 +1,5 @@
 -- Sums over blocks.
-use Rattle.std.proofs.Common.{◌≡◌, ℕ, zero, suc, ◌+◌, ◌<◌, ◌≤◌, inl, inr, arith, subst, ap, sym}
+use Rattle.std.proofs.Common.{ℕ, zero, suc, ◌+◌, ◌<◌, ◌≤◌, inl, inr, arith, subst, sym}
 use Rattle.std.specs.Prelude.{◌≢◌}
 use Rattle.std.proofs.lemmas.Bool.{cases_eq}
 use Rattle.treefs_model.specs.Links.{total}
@@ -21,6 +21,3 @@ total_at (suc n) b f g x y lt h at = elim (cases_eq b n) [
       let here = h n (λ e. ne (sym e)) in
       omega arith
 ]
-
-pub total_same : (n : ℕ) (f g : ℕ → ℕ) → ((c : ℕ) → f c ≡ g c) → total n f ≡ total n g
-total_same n f g h = ap (total n) (λ i c. h c i)

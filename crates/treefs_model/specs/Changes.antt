@@ -77,12 +77,6 @@ abbrev pub unlinked : Files → ℤ → ℕ → List ℕ → Result Files Fault
 unlinked files time d name =
     and_then (number_in files d name) (λ n. and_then (found files n) (λ inode. if is_directory inode.content then Err IsDir else Ok (without_name files time d name n)))
 
--- a directory has no name
-abbrev pub IsEmpty : Content → Type 0
-IsEmpty (Directory parent names) = (name : List ℕ) → names name ≡ None
-IsEmpty (File bytes) = Unit {0}
-IsEmpty (SymbolicLink bytes) = Unit {0}
-
 -- whether a directory is empty is told
 abbrev pub removed : Files → ℤ → ℕ → List ℕ → Bool → Result Files Fault
 removed files time d name empty =

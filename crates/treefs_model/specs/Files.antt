@@ -117,6 +117,10 @@ with_name files d name number = changed_at files d (renamed_in name number)
 
 -- Rules
 
+-- how many links n has, where so many names lead to it
+abbrev pub links_for : ℕ → List (ℕ × List ℕ) → ℕ
+links_for n all = if n == 1 then length all + 1 else length all
+
 -- a name of the directory d leads to n
 abbrev pub Leads : Files → ℕ → List ℕ → ℕ → Type 0
 Leads files d name n = (inode : Inode) × (parent : ℕ) × (names : Names) × (files d ≡ Some inode) × (inode.content ≡ Directory parent names)
@@ -126,9 +130,6 @@ Leads files d name n = (inode : Inode) × (parent : ℕ) × (names : Names) × (
 pub record AreNames (files : Files) (n : ℕ) (all : List (ℕ × List ℕ)) : Type 0 where
   pub lead : (d : ℕ) (name : List ℕ) → Leads files d name n ↔ Contains all (d, name)
   pub once : (i j : ℕ) (p : ℕ × List ℕ) → slice_get all i ≡ Some p → slice_get all j ≡ Some p → i ≡ j
-
-abbrev pub links_for : ℕ → List (ℕ × List ℕ) → ℕ
-links_for n all = if n == 1 then length all + 1 else length all
 
 pub record AreConsistent (files : Files) : Type 0 where
   -- inode 1 is a directory, which no name leads to, and stands in itself
