@@ -14,7 +14,7 @@ import os
 import random
 import re
 
-from small_disk import SmallDisk
+from small_disk import SmallDisk, array_of
 
 TOP = os.path.dirname(os.path.dirname(os.path.abspath(__file__)))
 BOUND = "tools/document_numbers.txt"
@@ -155,6 +155,8 @@ class Numbers:
         if self.faults:
             return [(1, it) for it in self.faults]
         if re.search(DUMPED.pattern, text, re.M):
+            trees = self.source_of("treefs_format")
+            self.names |= {"node_template": array_of(trees, "NODE"), "inode_template": array_of(trees, "INODE"), "tree_mark": b"XNTREE1\0"}
             self.names["disk"] = SmallDisk(self.names, self.source_of("ffs_format"), text)
         return [*self.table_faults(document, text), *self.dump_faults(text)]
 
