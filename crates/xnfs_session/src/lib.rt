@@ -5,11 +5,10 @@
 //! May touch: memory.
 #![tactic(auto)]
 
-mod flushing;
 mod session;
 mod stopping;
 
 pub use ffs_lib::{FfsFault, Fs, Repair, Repairs};
-pub use flushing::FlushStore;
+pub use flush_store::FlushStore;
 pub use session::{Entry, Facts, MOST_BYTES, MOST_INODES, Node, Owner, Session, Usage, has_volume};
 pub use stopping::{Stop, TestLane};

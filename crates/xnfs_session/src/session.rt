@@ -36,7 +36,6 @@ ghost use Rattle.xnfs_session.specs.Sessions.{entry_blocks, inode_blocks, name_b
 
 mod raw;
 
-use crate::flushing::FlushStore;
 use arrayvec::ArrayVec;
 use ffs_format::is_name;
 use ffs_lib::{FfsFault, Fs, Repairs, Volume};
@@ -44,6 +43,7 @@ use ffs_lookup::{
     DIRECTORY, Found, Room, Slot, find_directory, find_entry, find_free, find_inode, find_room,
     is_library, root_block,
 };
+use flush_store::FlushStore;
 pub use raw::{Entry, Facts, has_volume};
 use std::alloc::{AllocError, Global};
 use std::marker::Model;

@@ -2,13 +2,13 @@
 
 ghost use Rattle.std.specs.Prelude.{◌≤◌};
 
-use crate::flushing::FlushStore;
 use crate::session::{MOST_INODES, Session};
 use ffs_format::entries::{ENTRIES, ENTRY_LEN, NAME_LEN};
 use ffs_format::inodes::DIRECT_POINTERS;
 use ffs_format::{Inode, entry_inode, entry_name, home, pointer};
 use ffs_lib::Fs;
 use ffs_lookup::{FfsFault, find_directory, inode_block, is_library, read_block, root_block};
+use flush_store::FlushStore;
 use std::alloc::{AllocError, Global};
 use xn_kernel::Store;
 

@@ -1,11 +1,11 @@
 use Rattle.std.proofs.Common.{◌≡◌}
-use Rattle.xn_model.specs.Worlds.{all_pending}
 use Rattle.xn_state.specs.States.{own_types}
-use Rattle.xn_kernel.specs.FlushedStates.{KeepsNewest}
-use Rattle.ffs_lib.specs.Volumes.{NothingPending}
+use Rattle.xn_model.specs.Worlds.{all_pending}
 use Rattle.xn_kernel.proofs.ForCallers.{nothing_left, refused_goes, refused_state, waves_go, waves_of_state}
-use Rattle.xnfs_session.proofs.Flushed.{Follows, always, if_err, if_ok, on_ok, refused_follows, waves_follow}
-use Rattle.xnfs_session.proofs.flushing.KernelFlushStore.flush.Goals as goal
+use Rattle.flush_store.specs.Written.{AllWritten}
+use Rattle.flush_store.proofs.Kept.{always}
+use Rattle.flush_store.proofs.Told.{if_err, if_ok, on_ok}
+use Rattle.flush_store.proofs.flushing.KernelFlushStore.flush.Goals as goal
 
 pub returns-clause-waves : goal.returns-clause-waves
 returns-clause-waves g c =
@@ -18,18 +18,6 @@ returns-clause-err g c =
     (λ stop r. refused_state g.L.Lane.bytes_of g.L.Lane.faults_of g.L.Lane.write_gives g.L.Lane.sync_gives g.L.Lane.read_gives c.args.self.now c.flush-flushed.new.self
     stop.waves stop.tickets.items stop.refusal r)
 
-pub returns-clause-done : goal.returns-clause-done
-returns-clause-done g c =
-    on_ok (λ stop. stop.refusal) c.waves_of.result c.flush-flushed.result (all_pending _ ≡ 0) (NothingPending _) c.waves_of.ensures c.flush-flushed.ensures.done (nothing_left _)
-
-pub returns-clause-newest : goal.returns-clause-newest
-returns-clause-newest g c =
-    let old = c.args.self.now.state in
-    let new = c.flush-flushed.new.self.state in
-    always c.waves_of.result old new (KeepsNewest old.lives new.lives) (returns-clause-waves g c) (returns-clause-err g c)
-    (λ n w. (waves_go (own_types old) n old new c.keeps_rules.ensures.rules w).newest)
-    (λ r s. (refused_goes (own_types old) old new r c.keeps_rules.ensures.rules s).newest)
-
 pub returns-clause-types : goal.returns-clause-types
 returns-clause-types g c =
     let old = c.args.self.now.state in
@@ -38,8 +26,6 @@ returns-clause-types g c =
     (λ n w. (waves_go (own_types old) n old new c.keeps_rules.ensures.rules w).types)
     (λ r s. (refused_goes (own_types old) old new r c.keeps_rules.ensures.rules s).types)
 
-pub returns-clause-keeps : goal.returns-clause-keeps
-returns-clause-keeps g c =
-    let old = c.args.self.now.state in
-    let new = c.flush-flushed.new.self.state in
-    always c.waves_of.result old new (Follows old new) (returns-clause-waves g c) (returns-clause-err g c) (λ n w. waves_follow n old new w) (λ r s. refused_follows old new r s)
+pub returns-clause-done : goal.returns-clause-done
+returns-clause-done g c =
+    on_ok (λ stop. stop.refusal) c.waves_of.result c.flush-flushed.result (all_pending _ ≡ 0) (AllWritten _) c.waves_of.ensures c.flush-flushed.ensures.done (nothing_left _)

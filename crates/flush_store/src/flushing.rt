@@ -3,16 +3,15 @@
 ghost use Rattle.std.specs.Prelude.{◌≡◌, ◌<◌, ◌≤◌, IfErr, IfOk, MatchResult, OnOk, Ok, Err, is_some};
 ghost use Rattle.xn_model.specs.Calls.{free_of, tainted_of};
 ghost use Rattle.xn_model.specs.Rules.{IsIdle};
+ghost use Rattle.flush_store.specs.Written.{AllWritten};
 ghost use Rattle.xn_state.specs.Awaits.{awaited_of};
-ghost use Rattle.xn_kernel.specs.FlushedStates.{KeepsNewest, StateRefuses, StateWaves};
-ghost use Rattle.ffs_lib.specs.Volumes.{NothingPending};
-ghost use Rattle.xnfs_session.specs.Kept.{KeepsVolumes};
+ghost use Rattle.xn_kernel.specs.FlushedStates.{StateRefuses, StateWaves};
 
 use disk::Lane;
 use std::alloc::Global;
 use xn_kernel::{FlushStop, Kernel, Refusal, Store};
 
-/// A store on a disk that can be flushed.
+/// A store on a disk that can be flushed. What a flush leaves of rules and newest bytes is said by the law `flushes_keep_newest`.
 pub trait FlushStore: Store {
     /// Writes all that is pending in waves of up to 256 blocks, and answers how many that took; each block keeps its newest bytes. It is refused
     /// where a write is under way (`InFlight`) and for want of memory (`NoMemory`), which both do nothing, and stops with the wave in
@@ -21,10 +20,8 @@ pub trait FlushStore: Store {
         ensures types { Self.types_of self.new ≡ Self.types_of self.old }
         ensures waves { IfOk result (λ waves. StateWaves waves (Self.state_of self.old) (Self.state_of self.new)) }
         ensures idle { OnOk result (IsIdle (Self.state_of self.old).lives × IsIdle (Self.state_of self.new).lives) }
-        ensures done { OnOk result (NothingPending (Self.state_of self.new).lives) }
-        ensures err { IfErr result (λ refusal. StateRefuses (Self.state_of self.old) refusal (Self.state_of self.new)) }
-        ensures newest { KeepsNewest (Self.state_of self.old).lives (Self.state_of self.new).lives }
-        ensures keeps { KeepsVolumes (Self.types_of self.old) (Self.state_of self.old) (Self.types_of self.new) (Self.state_of self.new) };
+        ensures done { OnOk result (AllWritten (Self.state_of self.new).lives) }
+        ensures err { IfErr result (λ refusal. StateRefuses (Self.state_of self.old) refusal (Self.state_of self.new)) };
 
     /// Writes what is pending in so many waves at most, as `flush` does, and answers how many that took, fewer only where nothing is pending any
     /// more. It is refused, and stops, as `flush` is.
@@ -33,10 +30,8 @@ pub trait FlushStore: Store {
         ensures waves { IfOk result (λ waves. StateWaves waves (Self.state_of self.old) (Self.state_of self.new)) }
         ensures idle { OnOk result (IsIdle (Self.state_of self.old).lives × IsIdle (Self.state_of self.new).lives) }
         ensures few { IfOk result (λ waves. waves ≤ most) }
-        ensures done { IfOk result (λ waves. waves < most → NothingPending (Self.state_of self.new).lives) }
-        ensures err { IfErr result (λ refusal. StateRefuses (Self.state_of self.old) refusal (Self.state_of self.new)) }
-        ensures newest { KeepsNewest (Self.state_of self.old).lives (Self.state_of self.new).lives }
-        ensures keeps { KeepsVolumes (Self.types_of self.old) (Self.state_of self.old) (Self.types_of self.new) (Self.state_of self.new) };
+        ensures done { IfOk result (λ waves. waves < most → AllWritten (Self.state_of self.new).lives) }
+        ensures err { IfErr result (λ refusal. StateRefuses (Self.state_of self.old) refusal (Self.state_of self.new)) };
 
     /// How many blocks are free.
     fn free(&self) -> u32

@@ -1,0 +1,3 @@
+mod Told
+pub mod Kept
+pub mod ForCallers
