@@ -7,15 +7,15 @@ mod alone;
 #[cfg(test)]
 mod at_once;
 #[cfg(test)]
-mod disks;
-#[cfg(test)]
-mod failing;
+mod blocks;
 #[cfg(test)]
 mod held;
 #[cfg(test)]
-mod hold;
+mod lanes;
 #[cfg(test)]
 mod many;
+#[cfg(test)]
+mod scene;
 #[cfg(test)]
 mod sharing;
 #[cfg(test)]

@@ -1,23 +1,19 @@
 // Eight file systems and four flushers, over lanes that fail now and then.
 
 ghost use Rattle.std.specs.Prelude.{◌≡◌};
-ghost use Rattle.durable_floor.specs.Rules.{zero_floor};
 
-use crate::disks::{all_on_disk, bare_lanes, mounted};
-use crate::failing::{FailingLane, Fails, failing_lanes};
-use crate::hold::Open;
-use crate::sharing::{all_told, share, start, sync_and_finish};
-use disk::{Lane, Lanes, MemDisk, MemLane};
-use durable_floor::{Floor, Naming, Publisher, Reader};
-use shared::{FlushEnd, Flusher, Gate, Shared};
-use std::alloc::{AllocError, Global};
-use std::marker::Brand;
+use crate::blocks::{edit_of, is};
+use crate::lanes::Trouble;
+use crate::scene::{Scene, play};
+use crate::sharing::{Kernels, all_told, start, sync_and_finish};
+use durable_floor::{Naming, Reader};
+use shared::{FlushEnd, Flusher};
+use std::alloc::Global;
 use std::process::Abort;
 use std::sync::Wait;
-use std::test::*;
 use std::thread;
-use std::thread::{Threads, join};
-use xn_kernel::{Edit, Fs, Kernel, Patch, Refusal, Store};
+use std::thread::{Threads, join, map_indices};
+use xn_kernel::{Edit, Fs, Refusal, Store};
 
 /// How many file systems have a worker.
 const SYSTEMS: u8 = 8;
@@ -25,43 +21,15 @@ const SYSTEMS: u8 = 8;
 /// How many edits each file system proposes.
 const EDITS: u32 = 2500;
 
-/// How many places of four bytes the edits of a block go round.
-const PLACES: u32 = 128;
-
-/// The lanes of a disk whose faults are over.
-fn sound_lanes(alloc: Global, mut lanes: Lanes<FailingLane>) -> Result<Lanes<MemLane>, AllocError> {
-    let mut all = Lanes::new(alloc, 32)?;
-    for block in 0..32 {
-        if lanes.blocks() <= block as usize {
-            return Err(AllocError);
-        }
-        let Some(failing) = lanes.take(block) else {
-            return Err(AllocError);
-        };
-        if let Err(_) = all.give(failing.into_lane()) {
-            return Err(AllocError);
-        }
-    }
-    Ok(all)
-}
-
-/// The edit of a number: it stands in its place of the block.
-fn numbered(alloc: Global, number: u32) -> Result<Edit, AllocError> {
-    let bytes = Vec::from_slice(alloc, &number.to_le_bytes())?;
-    let offset = (4 * (number % PLACES)) as u16;
-    let patches = Vec::from_array(alloc, [Patch { offset, bytes }])?;
-    Ok(Edit {
-        patches,
-        adds: Vec::new(alloc),
-        drops: Vec::new(alloc),
-        after: None,
-    })
+/// The place of a number in a block, of four bytes.
+fn place(number: u32) -> u16 {
+    (number % 128 * 4) as u16
 }
 
 /// Proposes an edit until there is room for it; whether that was so in time.
-fn propose<L: Lane, G: Gate, K: Naming, R: Wait>(
+fn propose<K: Naming, R: Wait>(
     rt: &R,
-    shared: &Shared<L, G, K>,
+    shared: &Kernels<K>,
     fs: Fs,
     block: u32,
     edit: &Edit,
@@ -77,200 +45,122 @@ fn propose<L: Lane, G: Gate, K: Naming, R: Wait>(
 }
 
 /// All edits of a file system's block; whether each was accepted.
-fn work<L: Lane, G: Gate, K: Naming, R: Wait>(
+fn work<K: Naming, R: Wait + Abort>(
     rt: &R,
     alloc: Global,
-    shared: &Shared<L, G, K>,
-    number: u8,
+    shared: &Kernels<K>,
+    number: usize,
 ) -> bool {
-    let Some(fs) = Fs::new(number) else {
-        return false;
-    };
+    let number = number.min(31) as u8;
+    let fs = Fs::new(number).expect(rt, "a file system");
+    let block = u32::from(number) + 1;
+    let mut is_good = true;
     for count in 0..EDITS {
-        let Ok(edit) = numbered(alloc, count) else {
-            return false;
-        };
-        if !propose(rt, shared, fs, u32::from(number) + 1, &edit) {
-            return false;
-        }
+        let edit = edit_of(alloc, place(count), &count.to_le_bytes()).expect(rt, "memory");
+        is_good = is_good && propose(rt, shared, fs, block, &edit);
     }
-    true
+    is_good
 }
 
-/// How often lanes failed.
-#[derive(Clone, Copy)]
-struct Faults {
-    writes: u32,
-    syncs: u32,
-}
-
-/// The faults of both.
-fn together(one: Faults, two: Faults) -> Faults {
-    Faults {
-        writes: one.writes.saturating_add(two.writes),
-        syncs: one.syncs.saturating_add(two.syncs),
-    }
-}
-
-/// Flushes on after each device fault; how many there were, and none where a flusher ended otherwise.
-fn flush<L: Lane + Drop, G: Gate, K: Naming, R: Wait>(
+/// All workers at once, after which the flushers may end; whether each edit was accepted.
+fn work_at_once<K: Naming + Send + Sync, R: Threads + Wait + Abort + Sync>(
     rt: &R,
-    shared: &Shared<L, G, K>,
-) -> Option<Faults> {
-    let mut faults = Faults {
-        writes: 0,
-        syncs: 0,
-    };
+    alloc: Global,
+    shared: &Kernels<K>,
+) -> bool {
+    let worked = map_indices(
+        rt,
+        alloc,
+        usize::from(SYSTEMS),
+        &|at| work(rt, alloc, shared, at),
+    );
+    shared.stop();
+    let mut is_good = true;
+    for is_done in &worked.expect(rt, "memory") {
+        is_good = is_good && *is_done;
+    }
+    is_good
+}
+
+/// Flushes on after each device fault: how many writes and how many syncs failed, and none where a flusher ended otherwise.
+fn flush<K: Naming, R: Wait>(rt: &R, shared: &Kernels<K>) -> Option<(u32, u32)> {
+    let (mut failed_writes, mut failed_syncs) = (0u32, 0u32);
     for _ in 0..100_000 {
         let FlushEnd {
             writes: _,
             fault,
             ticket,
         } = Flusher::new(shared).run(rt);
-        match (fault, ticket) {
-            (Some(Refusal::Device), Some(ticket)) => {
-                let _landed = sync_and_finish(rt, shared, ticket)?;
-                faults.syncs = faults.syncs.saturating_add(1);
+        let is_device = fault == Some(Refusal::Device);
+        match ticket {
+            Some(ticket) => {
+                let landed = sync_and_finish(rt, shared, ticket);
+                if !is_device || landed.is_none() {
+                    return None;
+                }
+                failed_syncs = failed_syncs.saturating_add(1);
             }
-            (Some(Refusal::Device), None) => faults.writes = faults.writes.saturating_add(1),
-            (None, None) => return Some(faults),
-            (_, Some(ticket)) => {
-                let _lane = ticket.into_lane();
-                return None;
-            }
-            (Some(_), None) => return None,
+            None if is_device => failed_writes = failed_writes.saturating_add(1),
+            None if fault.is_none() => return Some((failed_writes, failed_syncs)),
+            None => return None,
         }
     }
     None
 }
 
-/// The place of a block has the last number that was proposed for it.
-fn is_last(bytes: &[u8]) -> bool {
-    let mut good = true;
-    for (place, found) in bytes.chunks(4).enumerate() {
-        let place = u32::try_from(place).unwrap_or(PLACES);
-        let mut last = 0u32;
-        for number in 0..EDITS {
-            if number % PLACES == place {
-                last = number;
+/// Four flushers at once: how many writes and how many syncs failed.
+fn flush_at_once<K: Naming + Send + Sync, R: Threads + Wait + Abort + Sync>(
+    rt: &R,
+    alloc: Global,
+    shared: &Kernels<K>,
+) -> (u32, u32) {
+    let ends = map_indices(rt, alloc, 4, &|_| flush(rt, shared));
+    let (mut all_writes, mut all_syncs) = (0u32, 0u32);
+    for end in &ends.expect(rt, "memory") {
+        let (writes, syncs) = end.expect(rt, "a flusher");
+        all_writes = all_writes.saturating_add(writes);
+        all_syncs = all_syncs.saturating_add(syncs);
+    }
+    (all_writes, all_syncs)
+}
+
+/// Each place has the last number that was proposed for it.
+fn last_numbers() -> [u8; 512] {
+    let mut bytes = [0; 512];
+    for number in 0..EDITS {
+        let at = usize::from(place(number));
+        for (i, byte) in number.to_le_bytes().iter().enumerate() {
+            if let Some(to) = bytes.get_mut(at.wrapping_add(i)) {
+                *to = *byte;
             }
         }
-        good = good && found == last.to_le_bytes().as_slice();
     }
-    good
+    bytes
 }
 
-/// Two workers at once, for these file systems.
-fn two_workers<L: Lane + Send, G: Gate + Sync, K: Naming + Send + Sync, R: Threads + Wait + Sync>(
+/// Eight workers and four flushers at once, and the bytes that are left of each block.
+pub fn run_many<K: Naming + Send + Sync, R: Threads + Wait + Abort + Sync>(
     rt: &R,
     alloc: Global,
-    shared: &Shared<L, G, K>,
-    one: u8,
-    two: u8,
-) -> bool {
-    let (one, two) = join(
-        rt,
-        || work(rt, alloc, shared, one),
-        || work(rt, alloc, shared, two),
-    );
-    one && two
-}
-
-/// Four workers at once, from this file system on.
-fn four_workers<L: Lane + Send, G: Gate + Sync, K: Naming + Send + Sync, R: Threads + Wait + Sync>(
-    rt: &R,
-    alloc: Global,
-    shared: &Shared<L, G, K>,
-    first: u8,
-) -> bool {
-    let (one, two) = join(
-        rt,
-        || two_workers(rt, alloc, shared, first, first.saturating_add(1)),
-        || two_workers(
-            rt,
-            alloc,
-            shared,
-            first.saturating_add(2),
-            first.saturating_add(3),
-        ),
-    );
-    one && two
-}
-
-/// Eight workers at once, after which the flushers may end.
-fn eight_workers<L: Lane + Send, G: Gate + Sync, K: Naming + Send + Sync, R: Threads + Wait + Sync>(
-    rt: &R,
-    alloc: Global,
-    shared: &Shared<L, G, K>,
-) -> bool {
-    let (one, two) = join(
-        rt,
-        || four_workers(rt, alloc, shared, 0),
-        || four_workers(rt, alloc, shared, 4),
-    );
-    shared.stop();
-    one && two
-}
-
-/// Two flushers at once; how many faults they met.
-fn two_flushers<
-    L: Lane + Drop + Send,
-    G: Gate + Sync,
-    K: Naming + Send + Sync,
-    R: Threads + Wait + Abort + Sync,
->(rt: &R, shared: &Shared<L, G, K>) -> Option<Faults> {
-    let (one, two) = join(rt, || flush(rt, shared), || flush(rt, shared));
-    Some(together(one?, two?))
-}
-
-/// Eight workers and four flushers at once.
-fn run<
-    L: Lane + Drop + Send,
-    G: Gate + Sync,
-    K: Naming + Send + Sync,
-    R: Threads + Wait + Abort + Sync,
->(rt: &R, alloc: Global, shared: &Shared<L, G, K>) -> Result<(), Fail> {
-    let (worked, (one, two)) = join(
-        rt,
-        || eight_workers(rt, alloc, shared),
-        || join(rt, || two_flushers(rt, shared), || two_flushers(rt, shared)),
-    );
-    assert!(rt; worked);
-    let faults = together(one.ok_or("a flusher")?, two.ok_or("a flusher")?);
-    assert!(rt; faults.writes > 0, "no write failed");
-    assert!(rt; faults.syncs > 0, "no sync failed");
-    Ok(())
-}
-
-/// The run, and what it leaves.
-fn many<K: Naming + Send + Sync, R: Threads + Wait + Abort + Sync>(
-    rt: &R,
-    alloc: Global,
-    floor: Floor,
-    publisher: Publisher,
-    reader: Reader,
-    kernel: Kernel<FailingLane>,
-) -> Result<(), Fail>
-    requires floor { floor ≡ K.floor }
-    requires publisher { publisher ≡ record { floor = floor; seen = zero_floor } }
-    requires reader { reader.floor ≡ floor }
+    shared: &Kernels<K>,
+    reader: &mut Reader,
+) -> [u8; 512]
+    requires { reader.old.floor ≡ K.floor }
 {
-    let shared: Shared<FailingLane, Open, K> = share(alloc, kernel, floor, publisher, Open)?;
-    start(rt, &shared, SYSTEMS)?;
-    run(rt, alloc, &shared)?;
-    all_told(rt, &shared, reader, SYSTEMS, 20_017, is_last)?;
-    let lanes = shared.into_held().into_kernel().into_lanes();
-    match MemDisk::join(alloc, sound_lanes(alloc, lanes)?) {
-        Ok(disk) => all_on_disk(rt, alloc, disk.bytes(), SYSTEMS, is_last),
-        Err(_) => Err("a lane is away".into()),
-    }
+    start(rt, shared, SYSTEMS);
+    let (is_worked, (writes, syncs)) = join(
+        rt,
+        || work_at_once(rt, alloc, shared),
+        || flush_at_once(rt, alloc, shared),
+    );
+    is(rt, "all edits", is_worked);
+    is(rt, "writes that fail", writes > 0);
+    is(rt, "syncs that fail", syncs > 0);
+    all_told(rt, shared, reader, SYSTEMS, 20_017, &last_numbers());
+    last_numbers()
 }
 
 #[test]
-fn many_edits_over_failing_lanes(rt: HostRuntime) -> Result<(), Fail> {
-    let lanes = failing_lanes(rt.alloc(), bare_lanes(rt.alloc())?, Fails::NowAndThen, None)?;
-    let kernel = mounted(&rt, rt.alloc(), lanes)?;
-    let (floor, publisher, mut readers) = Floor::new(rt.alloc(), 1)?;
-    let reader = readers.pop().ok_or("a reader")?;
-    many::<Brand, _>(&rt, rt.alloc(), floor, publisher, reader, kernel)
+fn many_edits_over_failing_lanes(rt: HostRuntime) {
+    play(&rt, rt.alloc(), rt, Scene::Many, Trouble::NowAndThen)
 }

@@ -3,24 +3,41 @@
 ghost use Rattle.std.specs.Prelude.{◌≡◌};
 ghost use Rattle.durable_floor.specs.Rules.{zero_floor};
 
-use crate::disks::file_system;
-use disk::Lane;
+use crate::blocks::is;
+use crate::lanes::{SceneGate, SceneLane};
+use crash_check::mount;
+use disk::Lanes;
 use durable_floor::{Floor, Naming, Publisher, Reader};
-use shared::{FlushEnd, Gate, Hub, Shared};
+use shared::{FlushEnd, Flusher, Hub, Shared};
 use std::alloc::{AllocError, Global};
 use std::process::Abort;
 use std::sync::{Arc, Wait};
-use std::test::*;
-use xn_kernel::{EditId, Kernel, Landed, Refusal, Store, Ticket};
+use std::thread::{Threads, map_indices};
+use xn_kernel::{EditId, Fs, Kernel, Landed, Refusal, Store, Ticket};
+
+/// The kernel of a scene.
+pub type Kernels<K> = Shared<SceneLane, SceneGate, K>;
+
+/// The kernel of a disk.
+pub fn mounted<R: Threads + Abort + Sync>(
+    rt: &R,
+    alloc: Global,
+    lanes: Lanes<SceneLane>,
+) -> Kernel<SceneLane> {
+    match mount(rt, alloc, lanes, 1) {
+        Ok(kernel) => kernel,
+        Err(_) => panic!(rt; "no mount"),
+    }
+}
 
 /// A kernel that threads may share, with a floor that nobody has raised.
-pub fn share<L: Lane + Drop, G: Gate + Drop, K: Naming>(
+pub fn share<K: Naming>(
     alloc: Global,
-    kernel: Kernel<L>,
+    kernel: Kernel<SceneLane>,
     floor: Floor,
     publisher: Publisher,
-    gate: G,
-) -> Result<Shared<L, G, K>, AllocError>
+    gate: SceneGate,
+) -> Result<Kernels<K>, AllocError>
     requires floor { floor ≡ K.floor }
     requires publisher { publisher ≡ record { floor = floor; seen = zero_floor } }
 {
@@ -29,80 +46,119 @@ pub fn share<L: Lane + Drop, G: Gate + Drop, K: Naming>(
     Ok(Shared::new(hub, floor, gate))
 }
 
-/// A block of each of so many file systems, rooted: the blocks and the entries from 1 on.
-pub fn start<L: Lane, G: Gate, K: Naming, R: Wait + Abort>(
+/// A block of a file system, begun and rooted: what both calls answer.
+pub fn begin<K: Naming, R: Wait>(
     rt: &R,
-    shared: &Shared<L, G, K>,
-    systems: u8,
-) -> Result<(), Fail> {
-    for number in 0..systems {
-        let fs = file_system(number)?;
-        let block = u32::from(number) + 1;
-        let entry = 2 * u64::from(number) + 1;
-        let made = shared.with(rt, |hub| hub.init(fs, 2, &[0; 512]));
-        assert_eq!(rt; made, Ok((block, EditId(entry))));
-        let rooted = shared.with(rt, |hub| hub.make_root(fs, block));
-        assert_eq!(rt; rooted, Ok(EditId(entry + 1)));
-    }
-    Ok(())
+    shared: &Kernels<K>,
+    fs: Fs,
+    block: u32,
+    bytes: &[u8; 512],
+) -> (Result<(u32, EditId), Refusal>, Result<EditId, Refusal>) {
+    shared.with(rt, |hub| (hub.init(fs, 2, bytes), hub.make_root(fs, block)))
 }
 
-/// Each of these file systems is told this floor, nothing of it is pending, and its block's bytes are right.
-pub fn all_told<L: Lane, G: Gate, K: Naming, R: Wait + Abort, F: Fn(&[u8]) -> bool>(
-    rt: &R,
-    shared: &Shared<L, G, K>,
-    reader: Reader,
-    systems: u8,
-    floor: u64,
-    are_right: F,
-) -> Result<(), Fail>
-    requires reader { reader.floor ≡ K.floor }
-    requires right { F.IsAlwaysCallable are_right }
-{
-    let mut reader = reader;
+/// A block of each of so many file systems, rooted: the blocks and the entries from 1 on.
+pub fn start<K: Naming, R: Wait + Abort>(rt: &R, shared: &Kernels<K>, systems: u8) {
     for number in 0..systems {
-        let fs = file_system(number)?;
-        assert_eq!(rt; shared.meet(rt, fs, &mut reader), floor);
-        assert_eq!(rt; shared.with(rt, |hub| hub.pending(fs)), 0);
-        let read = shared.with(rt, |hub| hub.read(fs, u32::from(number) + 1).copied());
-        match read {
-            Ok(bytes) => assert!(rt; are_right(bytes.as_slice())),
-            Err(refusal) => panic!(rt; "{refusal:?}"),
+        if let Some(fs) = Fs::new(number) {
+            let block = u32::from(number) + 1;
+            let entry = 2 * u64::from(number) + 1;
+            let begun = begin(rt, shared, fs, block, &[0; 512]);
+            let wanted = (Ok((block, EditId(entry))), Ok(EditId(entry + 1)));
+            is(rt, "a block and a root", begun == wanted);
         }
     }
-    Ok(())
 }
 
-/// The writes and the fault of a flusher that has no ticket left.
-pub fn end_of<L: Lane + Drop>(rt: &impl Abort, end: FlushEnd<L>) -> (u32, Option<Refusal>) {
+/// How many entries of a file system are pending, and whether its block has these bytes.
+pub fn found<K: Naming, R: Wait>(
+    rt: &R,
+    shared: &Kernels<K>,
+    fs: Fs,
+    block: u32,
+    bytes: &[u8; 512],
+) -> (u32, bool) {
+    shared.with(
+        rt,
+        |hub| (hub.pending(fs), hub.read(fs, block) == Ok(bytes)),
+    )
+}
+
+/// Each of these file systems is told this floor, nothing of it is pending, and its block has these bytes.
+pub fn all_told<K: Naming, R: Wait + Abort>(
+    rt: &R,
+    shared: &Kernels<K>,
+    reader: &mut Reader,
+    systems: u8,
+    floor: u64,
+    bytes: &[u8; 512],
+)
+    requires { reader.old.floor ≡ K.floor }
+{
+    for number in 0..systems {
+        if let Some(fs) = Fs::new(number) {
+            is(rt, "a floor", shared.meet(rt, fs, reader) == floor);
+            let left = found(rt, shared, fs, u32::from(number) + 1, bytes);
+            is(rt, "a block that is written", left == (0, true));
+        }
+    }
+}
+
+/// Flushes until it is stopped or meets a fault: how many writes were made, the fault, and whether a ticket was left, which is given up.
+pub fn flush<K: Naming, R: Wait>(rt: &R, shared: &Kernels<K>) -> (u32, Option<Refusal>, bool) {
     let FlushEnd {
         writes,
         fault,
         ticket,
-    } = end;
+    } = Flusher::new(shared).run(rt);
     match ticket {
         Some(ticket) => {
-            drop(ticket.into_lane());
-            panic!(rt; "a ticket")
+            let _lane = ticket.into_lane();
+            (writes, fault, true)
         }
-        None => {}
+        None => (writes, fault, false),
     }
-    (writes, fault)
+}
+
+/// Flushes, which makes so many writes and meets this fault, or none, and leaves no ticket.
+pub fn flushes<K: Naming, R: Wait + Abort>(
+    rt: &R,
+    shared: &Kernels<K>,
+    writes: u32,
+    fault: Option<Refusal>,
+) {
+    is(rt, "a flush", flush(rt, shared) == (writes, fault, false));
 }
 
 /// How many writes a flusher made that met no fault.
-pub fn writes_of<L: Lane + Drop>(rt: &impl Abort, end: FlushEnd<L>) -> u32 {
-    let (writes, fault) = end_of(rt, end);
-    assert!(rt; fault.is_none());
-    writes
+fn flush_well<K: Naming, R: Wait>(rt: &R, shared: &Kernels<K>) -> Option<u32> {
+    match flush(rt, shared) {
+        (writes, None, false) => Some(writes),
+        _ => None,
+    }
+}
+
+/// How many writes so many flushers make at once, none of which meets a fault.
+pub fn flush_at_once<K: Naming + Send + Sync, R: Threads + Wait + Abort + Sync>(
+    rt: &R,
+    alloc: Global,
+    shared: &Kernels<K>,
+    flushers: usize,
+) -> u32 {
+    let ends = map_indices(rt, alloc, flushers, &|_| flush_well(rt, shared));
+    let mut all = 0u32;
+    for writes in &ends.expect(rt, "memory") {
+        all = all.saturating_add(writes.expect(rt, "a flusher"));
+    }
+    all
 }
 
 /// Takes the lock, and finishes a write: what that made durable, or the ticket and why it was refused.
-pub fn finish<L: Lane + Drop, G: Gate, K: Naming, R: Wait>(
+pub fn finish<K: Naming, R: Wait>(
     rt: &R,
-    shared: &Shared<L, G, K>,
-    ticket: Ticket<L>,
-) -> (Option<Landed>, Option<(Ticket<L>, Refusal)>) {
+    shared: &Kernels<K>,
+    ticket: Ticket<SceneLane>,
+) -> (Option<Landed>, Option<(Ticket<SceneLane>, Refusal)>) {
     let mut held = Some(ticket);
     let finished = shared.with(rt, |hub| Some(hub.finish(held.take()?)));
     if let Some(ticket) = held {
@@ -116,10 +172,10 @@ pub fn finish<L: Lane + Drop, G: Gate, K: Naming, R: Wait>(
 }
 
 /// Syncs a write and finishes it; `None` where either is refused, and the write is then given up.
-pub fn sync_and_finish<L: Lane + Drop, G: Gate, K: Naming, R: Wait>(
+pub fn sync_and_finish<K: Naming, R: Wait>(
     rt: &R,
-    shared: &Shared<L, G, K>,
-    mut ticket: Ticket<L>,
+    shared: &Kernels<K>,
+    mut ticket: Ticket<SceneLane>,
 ) -> Option<Landed> {
     let _synced = ticket.sync();
     let (landed, back) = finish(rt, shared, ticket);

@@ -1,7 +1,7 @@
 // Kernels over fresh disks in memory.
 
 use crash_check::mount;
-use disk::{MemDisk, MemLane};
+use disk::{MemLane, fresh_lanes};
 use ffs_format::templates;
 use std::alloc::{AllocError, Global};
 use std::thread::Threads;
@@ -23,10 +23,7 @@ pub fn fresh_kernel(
     if image.len() % 512 != 0 || image.len() > GREATEST {
         return Err(AllocError);
     }
-    let Ok(lanes) = MemDisk::new(alloc, &image)?.split(alloc) else {
-        return Err(AllocError);
-    };
-    match mount(rt, alloc, lanes, 1) {
+    match mount(rt, alloc, fresh_lanes(alloc, &image)?, 1) {
         Ok(kernel) => Ok(kernel),
         Err(_) => Err(AllocError),
     }

@@ -12,7 +12,7 @@ use udf_run::{Pair, owns};
 use udf_verify::{Checked, Role, VerifyFault, verify};
 
 /// What all runs of a program came to: how many pairs, and a number that is made of those of the last run.
-#[derive(Clone, Copy, Debug, PartialEq, Eq)]
+#[derive(Clone, Copy)]
 pub struct Total {
     pub pairs: u64,
     pub checksum: u64,

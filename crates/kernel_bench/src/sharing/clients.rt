@@ -2,13 +2,13 @@
 
 ghost use Rattle.std.specs.Prelude.{◌≡◌, ◌<◌};
 
-use disk::Lane;
+use crate::sharing::flushers::Kernels;
 use durable_floor::{Floor, Naming, Reader};
-use shared::{Gate, Shared};
 use std::alloc::{AllocError, Global};
+use std::marker::PhantomData;
 use std::sync::Wait;
 use std::thread;
-use std::thread::{Threads, join};
+use std::thread::{Threads, map_vec};
 use xn_kernel::{Edit, Fs, Patch, Store};
 
 /// How many edits each client makes.
@@ -44,84 +44,76 @@ fn wait_for(floor: &Floor, reader: &mut Reader, fs: u8, entry: u64) -> bool
     false
 }
 
-/// Makes the edits of a file system's block; whether each was told durable.
-fn work<L: Lane, G: Gate, K: Naming, R: Wait>(
-    rt: &R,
-    alloc: Global,
-    shared: &Shared<L, G, K>,
+/// A client: the number of its file system, and the reader of its floor.
+pub struct Client<K: Naming> {
     number: u8,
     reader: Reader,
-) -> bool
-    requires { reader.floor ≡ K.floor }
-{
-    let mut reader = reader;
-    let Some(fs) = Fs::new(number) else {
-        return false;
-    };
-    for count in 0..EDITS {
-        let Ok(edit) = numbered(alloc, count) else {
-            return false;
-        };
-        let Ok(entry) = shared.with(rt, |hub| hub.propose(fs, u32::from(number) + 1, &edit)) else {
-            return false;
-        };
-        if !wait_for(shared.floor(), &mut reader, fs.number(), entry.0) {
-            return false;
+    of: PhantomData<K>,
+    ghost reads: { reader.floor ≡ K.floor },
+}
+
+impl<K: Naming> Drop for Client<K> {
+    fn drop(self) {
+        let Client {
+            number: _,
+            reader: _,
+            of: _,
+        } = self;
+    }
+}
+
+impl<K: Naming> Client<K> {
+    /// The client of a file system.
+    pub fn new(number: u8, reader: Reader) -> Client<K>
+        requires { reader.floor ≡ K.floor }
+    {
+        Client {
+            number,
+            reader,
+            of: PhantomData,
         }
     }
-    true
+
+    /// Makes the edits of its block; whether each was told durable.
+    fn work<R: Wait>(self, rt: &R, alloc: Global, shared: &Kernels<K>) -> bool {
+        let Client {
+            number,
+            mut reader,
+            of: _,
+        } = self;
+        let Some(fs) = Fs::new(number) else {
+            return false;
+        };
+        let block = u32::from(number) + 1;
+        for count in 0..EDITS {
+            let Ok(edit) = numbered(alloc, count) else {
+                return false;
+            };
+            let Ok(entry) = shared.with(rt, |hub| hub.propose(fs, block, &edit)) else {
+                return false;
+            };
+            if !wait_for(shared.floor(), &mut reader, fs.number(), entry.0) {
+                return false;
+            }
+        }
+        true
+    }
 }
 
-/// Two clients at once, for these file systems.
-fn two_clients<L: Lane + Send, G: Gate + Sync, K: Naming + Send + Sync, R: Threads + Wait + Sync>(
+/// All clients at once, after which the flushers may end; whether each edit was told durable.
+pub fn work_at_once<K: Naming + Send + Sync, R: Threads + Wait + Sync>(
     rt: &R,
     alloc: Global,
-    shared: &Shared<L, G, K>,
-    first: u8,
-    one: Reader,
-    two: Reader,
-) -> bool
-    requires one { one.floor ≡ K.floor }
-    requires two { two.floor ≡ K.floor }
-{
-    let second = first.saturating_add(1);
-    let (low, high) = join(
-        rt,
-        || work(rt, alloc, shared, first, one),
-        || work(rt, alloc, shared, second, two),
-    );
-    low && high
-}
-
-/// Four clients at once, after which the flushers may end.
-pub fn four_clients<
-    L: Lane + Send,
-    G: Gate + Sync,
-    K: Naming + Send + Sync,
-    R: Threads + Wait + Sync,
->(
-    rt: &R,
-    alloc: Global,
-    shared: &Shared<L, G, K>,
-    one: Reader,
-    two: Reader,
-    three: Reader,
-    four: Reader,
-) -> bool
-    requires one { one.floor ≡ K.floor }
-    requires two { two.floor ≡ K.floor }
-    requires three { three.floor ≡ K.floor }
-    requires four { four.floor ≡ K.floor }
-{
-    let (low, high) = join(
-        rt,
-        || -> bool
-            requires { (one.floor ≡ K.floor) × (two.floor ≡ K.floor) }
-        { two_clients(rt, alloc, shared, 0, one, two) },
-        || -> bool
-            requires { (three.floor ≡ K.floor) × (four.floor ≡ K.floor) }
-        { two_clients(rt, alloc, shared, 2, three, four) },
-    );
+    shared: &Kernels<K>,
+    clients: Vec<Client<K>>,
+) -> bool {
+    let mut are_good = true;
+    match map_vec(rt, clients, &|client| client.work(rt, alloc, shared)) {
+        Ok(worked) => for is_good in &worked {
+            are_good = are_good && *is_good;
+        },
+        Err(_) => are_good = false,
+    }
     shared.stop();
-    low && high
+    are_good
 }

@@ -1,29 +1,11 @@
-// One, two or four flushers.
+// Flushers at once, over a kernel that threads share.
 
-use disk::Lane;
+use crate::sharing::lanes::WaitingLane;
 use durable_floor::Naming;
 use shared::{FlushEnd, Flusher, Gate, Shared};
+use std::alloc::Global;
 use std::sync::Wait;
-use std::thread::{Threads, join};
-
-/// How many flushers there are.
-#[derive(Clone, Copy, Drop)]
-pub enum Flushers {
-    One,
-    Two,
-    Four,
-}
-
-impl Flushers {
-    /// Their number.
-    pub fn count(&self) -> u32 {
-        match self {
-            Flushers::One => 1,
-            Flushers::Two => 2,
-            Flushers::Four => 4,
-        }
-    }
-}
+use std::thread::{Threads, map_indices};
 
 /// A gate that lets all pass.
 #[derive(Drop)]
@@ -35,50 +17,38 @@ impl Gate for Open {
     fn landed(&self, _block: u32) {}
 }
 
-/// Whether a flusher ended well.
-fn is_good<L: Lane + Drop>(end: FlushEnd<L>) -> bool {
+/// A kernel that threads share.
+pub type Kernels<K> = Shared<WaitingLane, Open, K>;
+
+/// Flushes until it is stopped; whether it ended well.
+fn flush<K: Naming, R: Wait>(rt: &R, shared: &Kernels<K>) -> bool {
     let FlushEnd {
         writes: _,
         fault,
         ticket,
-    } = end;
+    } = Flusher::new(shared).run(rt);
     match ticket {
         Some(ticket) => {
-            drop(ticket.into_lane());
+            let _lane = ticket.into_lane();
             false
         }
         None => fault.is_none(),
     }
 }
 
-fn one<L: Lane + Drop + Send, G: Gate + Sync, K: Naming + Send + Sync, R: Threads + Wait + Sync>(
+/// Lets so many flushers run until they are stopped; whether all ended well.
+pub fn flush_at_once<K: Naming + Send + Sync, R: Threads + Wait + Sync>(
     rt: &R,
-    shared: &Shared<L, G, K>,
+    alloc: Global,
+    shared: &Kernels<K>,
+    flushers: usize,
 ) -> bool {
-    is_good(Flusher::new(shared).run(rt))
-}
-
-fn two<L: Lane + Drop + Send, G: Gate + Sync, K: Naming + Send + Sync, R: Threads + Wait + Sync>(
-    rt: &R,
-    shared: &Shared<L, G, K>,
-) -> bool {
-    let (first, second) = join(rt, || one(rt, shared), || one(rt, shared));
-    first && second
-}
-
-/// Lets the flushers run until they are stopped; whether all ended well.
-pub fn flush<
-    L: Lane + Drop + Send,
-    G: Gate + Sync,
-    K: Naming + Send + Sync,
-    R: Threads + Wait + Sync,
->(rt: &R, shared: &Shared<L, G, K>, flushers: Flushers) -> bool {
-    match flushers {
-        Flushers::One => one(rt, shared),
-        Flushers::Two => two(rt, shared),
-        Flushers::Four => {
-            let (first, second) = join(rt, || two(rt, shared), || two(rt, shared));
-            first && second
-        }
+    let mut are_good = true;
+    match map_indices(rt, alloc, flushers, &|_| flush(rt, shared)) {
+        Ok(ends) => for is_good in &ends {
+            are_good = are_good && *is_good;
+        },
+        Err(_) => are_good = false,
     }
+    are_good
 }

@@ -2,22 +2,30 @@
 
 ghost use Rattle.disk.specs.Mem.{memory_leaves};
 
-use disk::{DeviceFault, Lane, Lanes, MemDisk, MemLane};
+use disk::{DeviceFault, Lane, Lanes, MemLane, fresh_lanes};
 use std::alloc::{AllocError, Global};
-use std::sync::Arc;
 use std::thread;
-use std::time::{Clock, Duration};
+use std::time::Duration;
 use templates::format_image;
 
 /// A lane in memory whose writes take so many microseconds.
-#[derive(Drop)]
-pub struct WaitingLane<C: Clock> {
+pub struct WaitingLane {
     lane: MemLane,
-    clock: Arc<C, Global>,
+    clock: HostRuntime,
     micros: u64,
 }
 
-impl<C: Clock> Lane for WaitingLane<C> {
+impl Drop for WaitingLane {
+    fn drop(self) {
+        let WaitingLane {
+            lane: _,
+            clock: _,
+            micros: _,
+        } = self;
+    }
+}
+
+impl Lane for WaitingLane {
     ghost use Rattle.std.specs.Prelude.{⊤};
 
     ghost number_of = { λ waiting. waiting.lane.number };
@@ -48,7 +56,7 @@ impl<C: Clock> Lane for WaitingLane<C> {
 
     fn write(&mut self, from: &[u8; 512]) -> Result<(), DeviceFault> {
         if self.micros > 0 {
-            thread::sleep(&*self.clock, Duration::from_micros(self.micros));
+            thread::sleep(&self.clock, Duration::from_micros(self.micros));
         }
         self.lane.write(from)
     }
@@ -58,43 +66,29 @@ impl<C: Clock> Lane for WaitingLane<C> {
     }
 }
 
-/// The lanes of a fresh disk of 32 blocks.
-fn fresh_lanes(alloc: Global) -> Result<Lanes<MemLane>, AllocError> {
+/// The lanes of a fresh disk of 32 blocks, whose writes take time.
+pub fn waiting_lanes(
+    alloc: Global,
+    clock: HostRuntime,
+    micros: u64,
+) -> Result<Lanes<WaitingLane>, AllocError> {
     let Ok(image) = format_image(alloc, 32, &[]) else {
         return Err(AllocError);
     };
     if image.len() != 16_384 {
         return Err(AllocError);
     }
-    match MemDisk::new(alloc, &image)?.split(alloc) {
-        Ok(lanes) => Ok(lanes),
-        Err(_) => Err(AllocError),
-    }
-}
-
-/// The same, with writes that take time.
-pub fn waiting_lanes<C: Clock + Drop>(
-    alloc: Global,
-    clock: &Arc<C, Global>,
-    micros: u64,
-) -> Result<Lanes<WaitingLane<C>>, AllocError> {
-    let mut lanes = fresh_lanes(alloc)?;
+    let mut lanes = fresh_lanes(alloc, &image)?;
     let mut all = Lanes::new(alloc, 32)?;
-    for block in 0..32 {
-        if lanes.blocks() <= block as usize {
-            return Err(AllocError);
-        }
-        let Some(lane) = lanes.take(block) else {
-            return Err(AllocError);
-        };
-        let clock = Arc::try_clone(clock)?;
-        let waiting = WaitingLane {
-            lane,
-            clock,
-            micros,
-        };
-        if let Err(_) = all.give(waiting) {
-            return Err(AllocError);
+    for block in 0..32u32 {
+        if (block as usize) < lanes.blocks()
+            && let Some(lane) = lanes.take(block)
+        {
+            let _ = all.give(WaitingLane {
+                lane,
+                clock,
+                micros,
+            });
         }
     }
     Ok(all)

@@ -1,36 +1,28 @@
 // Four clients and their flushers.
 
-ghost use Rattle.std.specs.Prelude.{◌≡◌};
+ghost use Rattle.std.specs.Prelude.{◌≡◌, All};
 ghost use Rattle.durable_floor.specs.Rules.{zero_floor};
 
-use crate::sharing::clients::four_clients;
-use crate::sharing::flushers::{Flushers, Open, flush};
+use crate::sharing::clients::{Client, work_at_once};
+use crate::sharing::flushers::{Kernels, Open, flush_at_once};
+use crate::sharing::lanes::WaitingLane;
 use crash_check::mount;
-use disk::{Lane, Lanes};
+use disk::Lanes;
 use durable_floor::{Floor, Naming, Publisher, Reader};
-use shared::{Gate, Hub, Shared};
+use shared::{Hub, Shared};
 use std::alloc::{AllocError, Global};
 use std::marker::Brand;
 use std::sync::{Arc, Wait};
 use std::thread::{Threads, join};
 use xn_kernel::{Fs, Kernel, Store};
 
-/// The readers of the four clients.
-#[derive(Drop)]
-struct Readers {
-    one: Reader,
-    two: Reader,
-    three: Reader,
-    four: Reader,
-}
-
 /// A kernel that threads may share, with a floor that nobody has raised.
-fn share<L: Lane + Drop, K: Naming>(
+fn share<K: Naming>(
     alloc: Global,
-    kernel: Kernel<L>,
+    kernel: Kernel<WaitingLane>,
     floor: Floor,
     publisher: Publisher,
-) -> Result<Shared<L, Open, K>, AllocError>
+) -> Result<Kernels<K>, AllocError>
     requires floor { floor ≡ K.floor }
     requires publisher { publisher ≡ record { floor = floor; seen = zero_floor } }
 {
@@ -40,96 +32,73 @@ fn share<L: Lane + Drop, K: Naming>(
 }
 
 /// A block of each of four file systems, rooted; whether that was done.
-fn start<L: Lane, G: Gate, K: Naming, R: Wait>(rt: &R, shared: &Shared<L, G, K>) -> bool {
+fn start<K: Naming, R: Wait>(rt: &R, shared: &Kernels<K>) -> bool {
+    let mut is_done = true;
     for number in 0..4 {
-        let Some(fs) = Fs::new(number) else {
-            return false;
-        };
-        let block = u32::from(number) + 1;
-        let made = shared.with(rt, |hub| hub.init(fs, 2, &[0; 512]));
-        let rooted = shared.with(rt, |hub| hub.make_root(fs, block));
-        if made.is_err() || rooted.is_err() {
-            return false;
+        if let Some(fs) = Fs::new(number) {
+            let block = u32::from(number) + 1;
+            let (made, rooted) = shared.with(
+                rt,
+                |hub| (hub.init(fs, 2, &[0; 512]), hub.make_root(fs, block)),
+            );
+            is_done = is_done && made.is_ok() && rooted.is_ok();
         }
     }
-    true
+    is_done
+}
+
+/// The four clients of the floor that these read.
+fn clients_of<K: Naming>(
+    alloc: Global,
+    mut readers: Vec<Reader>,
+) -> Result<Vec<Client<K>>, AllocError>
+    requires { All (λ reader. reader.floor ≡ K.floor) readers.items }
+{
+    let mut clients = Vec::new(alloc);
+    for number in 0..4 {
+        if let Some(reader) = readers.pop() {
+            clients.push(Client::new(number, reader))?;
+        }
+    }
+    Ok(clients)
 }
 
 /// The clients and the flushers at once; whether all edits were told durable.
-fn run<L: Lane + Drop + Send, K: Naming + Send + Sync, R: Threads + Wait + Sync>(
-    rt: &R,
-    alloc: Global,
-    shared: &Shared<L, Open, K>,
-    one: Reader,
-    two: Reader,
-    three: Reader,
-    four: Reader,
-    flushers: Flushers,
-) -> bool
-    requires one { one.floor ≡ K.floor }
-    requires two { two.floor ≡ K.floor }
-    requires three { three.floor ≡ K.floor }
-    requires four { four.floor ≡ K.floor }
-{
-    let (worked, flushed) = join(
-        rt,
-        || -> bool
-            requires { (one.floor ≡ K.floor) × (two.floor ≡ K.floor) × (three.floor ≡ K.floor) × (four.floor ≡ K.floor) }
-        { four_clients(rt, alloc, shared, one, two, three, four) },
-        || flush(rt, shared, flushers),
-    );
-    worked && flushed
-}
-
-/// The same over a kernel.
-fn scene<L: Lane + Drop + Send, K: Naming + Send + Sync, R: Threads + Wait + Sync>(
+fn scene<K: Naming + Send + Sync, R: Threads + Wait + Sync>(
     rt: &R,
     alloc: Global,
     floor: Floor,
     publisher: Publisher,
-    readers: Readers,
-    kernel: Kernel<L>,
-    flushers: Flushers,
+    readers: Vec<Reader>,
+    kernel: Kernel<WaitingLane>,
+    flushers: usize,
 ) -> Result<bool, AllocError>
     requires floor { floor ≡ K.floor }
     requires publisher { publisher ≡ record { floor = floor; seen = zero_floor } }
-    requires one { readers.one.floor ≡ floor }
-    requires two { readers.two.floor ≡ floor }
-    requires three { readers.three.floor ≡ floor }
-    requires four { readers.four.floor ≡ floor }
+    requires readers { All (λ reader. reader.floor ≡ K.floor) readers.items }
 {
-    let Readers {
-        one,
-        two,
-        three,
-        four,
-    } = readers;
-    let shared: Shared<L, Open, K> = share(alloc, kernel, floor, publisher)?;
-    Ok(start(rt, &shared) && run(rt, alloc, &shared, one, two, three, four, flushers))
+    let clients = clients_of::<K>(alloc, readers)?;
+    let is_whole = clients.len() == 4;
+    let shared: Kernels<K> = share(alloc, kernel, floor, publisher)?;
+    let is_started = start(rt, &shared);
+    let (are_told, are_good) = join(
+        rt,
+        || work_at_once(rt, alloc, &shared, clients),
+        || flush_at_once(rt, alloc, &shared, flushers),
+    );
+    Ok(is_whole && is_started && are_told && are_good)
 }
 
 /// The same over lanes.
-pub fn play<L: Lane + Drop + Send, R: Threads + Wait + Sync>(
+pub fn play<R: Threads + Wait + Sync>(
     rt: &R,
     alloc: Global,
-    lanes: Lanes<L>,
-    flushers: Flushers,
+    lanes: Lanes<WaitingLane>,
+    flushers: usize,
 ) -> Result<bool, AllocError> {
     let Ok(kernel) = mount(rt, alloc, lanes, 1) else {
         return Err(AllocError);
     };
-    let (floor, publisher, mut readers) = Floor::new(alloc, 4)?;
-    let (Some(one), Some(two)) = (readers.pop(), readers.pop()) else {
-        return Err(AllocError);
-    };
-    let (Some(three), Some(four)) = (readers.pop(), readers.pop()) else {
-        return Err(AllocError);
-    };
-    let readers = Readers {
-        one,
-        two,
-        three,
-        four,
-    };
-    scene::<_, Brand, _>(rt, alloc, floor, publisher, readers, kernel, flushers)
+    let (floor, publisher, readers) = Floor::new(alloc, 4)?;
+    scene::<Brand, _>(rt, alloc, floor, publisher, readers, kernel, flushers)
 }

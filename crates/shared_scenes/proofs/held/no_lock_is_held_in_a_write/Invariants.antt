@@ -1,5 +1,0 @@
-use Rattle.shared_scenes.proofs.held.no_lock_is_held_in_a_write.Given as goal
-
--- the floor that was just made
-abbrev pub ghosts-edits_of : goal.ghosts-edits_of
-ghosts-edits_of g a = record { floor = a.floor }
