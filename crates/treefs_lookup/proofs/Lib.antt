@@ -1,0 +1,9 @@
+pub mod Readable
+pub mod Walks
+pub mod Trees
+pub mod PassedLeaves
+pub mod FoundInodes
+pub mod Candidates
+pub mod FreePlaces
+pub mod FoundRecords
+pub mod FoundNames

@@ -1,0 +1,6 @@
+pub mod Readable
+pub mod Walks
+pub mod Leaves
+pub mod Inodes
+pub mod Buckets
+pub mod Names

@@ -1,0 +1,21 @@
+//! What stands in the newest bytes of a file system of trees over a store: its blocks, inodes, names and bytes, and where more of them may go.
+//! May touch: nothing.
+#![tactic(auto)]
+
+mod blocks;
+mod bucket;
+mod buckets;
+mod inodes;
+mod leaves;
+mod names;
+mod paths;
+mod places;
+
+pub use blocks::{pointer_at, read_block};
+pub use bucket::Bucket;
+pub use buckets::read_bucket;
+pub use inodes::{Found, find_directory, find_file, find_inode, find_link, inode_block};
+pub use leaves::{Leaf, next_leaf};
+pub use names::{Slot, find_entry, find_name, read_key};
+pub use paths::{Reach, find_holder, find_leaf, leaf_block, walk};
+pub use places::{NamePlace, find_place};
