@@ -7,3 +7,4 @@ pub mod Candidates
 pub mod FreePlaces
 pub mod FoundRecords
 pub mod FoundNames
+pub mod SoughtBuckets

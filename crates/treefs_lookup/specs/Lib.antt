@@ -4,3 +4,4 @@ pub mod Leaves
 pub mod Inodes
 pub mod Buckets
 pub mod Names
+pub mod Sought

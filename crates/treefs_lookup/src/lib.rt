@@ -10,6 +10,7 @@ mod leaves;
 mod names;
 mod paths;
 mod places;
+mod sought;
 
 pub use blocks::{pointer_at, read_block};
 pub use bucket::Bucket;
@@ -19,3 +20,4 @@ pub use leaves::{Leaf, next_leaf};
 pub use names::{Slot, find_entry, find_name, read_key};
 pub use paths::{Reach, find_holder, find_leaf, leaf_block, walk};
 pub use places::{NamePlace, find_place};
+pub use sought::{Sought, next_bucket};
