@@ -8,3 +8,5 @@ pub mod FreePlaces
 pub mod FoundRecords
 pub mod FoundNames
 pub mod SoughtBuckets
+pub mod FreeNumbers
+pub mod ReadParts

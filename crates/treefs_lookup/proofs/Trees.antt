@@ -1,11 +1,11 @@
 -- Leaves whose paths go over the same block.
-use Rattle.std.proofs.Common.{◌≡◌, ℕ, zero, suc, ◌+◌, ◌*◌, ◌-◌, ◌/◌, ◌<◌, ◌≤◌, ◌^◌, Bool, true, false, List, [], ◌∷◌, ◌++◌, length, drop, refl, sym, ◌∙◌, ap, inl, inr, arith, subst, length-append}
+use Rattle.std.proofs.Common.{◌≡◌, ℕ, zero, suc, ◌+◌, ◌*◌, ◌-◌, ◌/◌, ◌%◌, ◌<◌, ◌≤◌, ◌^◌, Bool, true, false, List, [], ◌∷◌, ◌++◌, length, drop, refl, sym, ◌∙◌, ap, inl, inr, arith, subst, length-append}
 use Rattle.std.specs.Prelude.{All, map, nat_lt, if◌then◌else◌}
 use Rattle.std.proofs.Math.Nat.{mul_left_comm, pow-succ'}
 use Rattle.std.proofs.lemmas.Bool.{cases_lt, le-ltb, lt-ltb}
 use Rattle.std.proofs.lemmas.List.{drop-append-le, drop-map, length-map}
 use Rattle.std.proofs.lemmas.List.Elements.{All-append, All-cons, All-map, All-nil}
-use Rattle.treefs_format.specs.Paths.{IsPath, first_leaf, height_of, leaf_count, leaf_offset, node_offset, place_in_tree, places, steps, tree_offset, tree_steps}
+use Rattle.treefs_format.specs.Paths.{IsPath, first_leaf, height_of, last_beside, leaf_count, leaf_offset, node_offset, place_in_tree, places, steps, tree_offset, tree_steps}
 use Rattle.treefs_lookup.specs.Walks.{behind, place_above}
 
 -- Offsets
@@ -260,6 +260,50 @@ pub is_behind : (i levels : ℕ) → i < leaf_count → levels ≤ height_of i �
 is_behind i levels lt le = elim (cases_lt i 16) [
   | inl own ↦ behind_own i levels own le
   | inr ge ↦ let tree = in_tree i ge lt in let e = tree.1.height in behind_tree i tree.0 levels tree.1 (omega arith)
+]
+
+-- the leaves whose pointers stand in the same block
+beside_own : (i j : ℕ) → i < 16 → j < 16 → IsBeside i j 1
+beside_own i j own other = record { few = omega arith; same = ap (drop 1) (steps_own j other) ∙ sym (ap (drop 1) (steps_own i own)) }
+
+last_own : (i : ℕ) → i < 16 → last_beside i ≡ 15
+last_own i own = ap (λ b. if b then 15 else i + (126 - place_in_tree i % 127)) (lt-ltb i 16 own)
+
+last_tree : (i h : ℕ) → IsIn i h → last_beside i + 1 ≡ behind i 1
+last_tree i h is =
+    let past : first_leaf h ≤ i = is.past in
+    let r = i - first_leaf h in
+    let last : last_beside i ≡ i + (126 - r % 127) = ap (λ b. if b then 15 else i + (126 - place_in_tree i % 127)) is.tree ∙ ap (λ k. i + (126 - (i - first_leaf k) % 127)) is.height in
+    let next : behind i 1 ≡ first_leaf h + (r / 127 + 1) * 127 = ap (λ k. first_leaf k + ((i - first_leaf k) / 127 + 1) * 127) is.height in
+    omega arith
+
+pub beside : (i j : ℕ) → i < leaf_count → i ≤ j → j ≤ last_beside i → IsBeside i j 1
+beside i j lt ge le = elim (cases_lt i 16) [
+  | inl own ↦ let last = last_own i own in beside_own i j own (omega arith)
+  | inr tree ↦
+      let there = in_tree i tree lt in
+      let height = there.1.height in
+      let low = there.1.low in
+      let last = last_tree i there.0 there.1 in
+      (is_behind i 1 lt (omega arith)).beside j ge (omega arith)
+]
+
+pub below_last : (i : ℕ) → i ≤ last_beside i
+below_last i = elim (cases_lt i 16) [
+  | inl own ↦ let last = last_own i own in omega arith
+  | inr tree ↦ let last : last_beside i ≡ i + (126 - place_in_tree i % 127) = ap (λ b. if b then 15 else i + (126 - place_in_tree i % 127)) (le-ltb i 16 tree) in omega arith
+]
+
+pub last_few : (i : ℕ) → i < leaf_count → last_beside i < leaf_count
+last_few i lt = elim (cases_lt i 16) [
+  | inl own ↦ let last = last_own i own in omega arith
+  | inr tree ↦
+      let there = in_tree i tree lt in
+      let height = there.1.height in
+      let low = there.1.low in
+      let last = last_tree i there.0 there.1 in
+      let few = (is_behind i 1 lt (omega arith)).few in
+      omega arith
 ]
 
 -- What is computed

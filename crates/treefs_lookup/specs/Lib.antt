@@ -5,3 +5,5 @@ pub mod Inodes
 pub mod Buckets
 pub mod Names
 pub mod Sought
+pub mod Numbers
+pub mod Bytes

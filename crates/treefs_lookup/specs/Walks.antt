@@ -2,8 +2,9 @@
 --     reach content top offsets    the last block of a path that is there, and how many behind it are missing
 --     end_of reach                 the block to which the whole path leads; 0 where one is missing
 --     holder_steps leaf            the path to the block that has the pointer to a leaf
+--     pointer_offset leaf          where it stands there
 --     behind leaf levels           the first leaf behind all that stand below the block so many levels above a leaf
-use Rattle.std.specs.Prelude.{ℕ, zero, suc, ◌+◌, ◌*◌, ◌/◌, ◌^◌, ◌==◌, List, [], ◌∷◌, drop, if◌then◌else◌}
+use Rattle.std.specs.Prelude.{ℕ, zero, suc, ◌+◌, ◌*◌, ◌/◌, ◌^◌, ◌==◌, List, [], ◌∷◌, drop, slice_index, if◌then◌else◌}
 use Rattle.treefs_format.specs.Paths.{first_leaf, height_of, place_in_tree, steps}
 use Rattle.treefs_model.specs.Reading.{pointed}
 use Rattle.treefs_lookup.specs.declared.paths.Reach.{Reach}
@@ -27,6 +28,9 @@ end_of r = if r.missing == 0 then r.block else 0
 
 abbrev pub holder_steps : ℕ → List ℕ
 holder_steps leaf = drop 1 (steps leaf)
+
+abbrev pub pointer_offset : ℕ → ℕ
+pointer_offset leaf = slice_index (steps leaf) 0
 
 -- the place of the block that is so many levels above the leaf at a place
 abbrev pub place_above : ℕ → ℕ → ℕ

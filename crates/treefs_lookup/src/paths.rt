@@ -1,15 +1,15 @@
 // Paths of pointers from inodes to leaves.
 
 ghost use Rattle.std.specs.Prelude.{◌≡◌, ◌+◌, ◌<◌, ◌≤◌, All};
-ghost use Rattle.treefs_format.specs.Paths.{height_of, leaf_count, steps};
+ghost use Rattle.treefs_format.specs.Paths.{leaf_count, steps};
 ghost use Rattle.treefs_lookup.specs.Readable.{readable};
-ghost use Rattle.treefs_lookup.specs.Walks.{behind, end_of, holder_steps, reach};
+ghost use Rattle.treefs_lookup.specs.Walks.{end_of, holder_steps, pointer_offset, reach};
 ghost use Rattle.treefs_model.specs.Reading.{leaf_block};
 
 use crate::blocks::pointer_at;
 use edit_list::Fs;
 use treefs_format::law::paths_are_leaves;
-use treefs_format::paths::{first_leaf, height, path};
+use treefs_format::paths::path;
 use xn_state::Store;
 
 /// How far a path of pointers leads.
@@ -70,6 +70,16 @@ pub fn find_holder<S: Store>(store: &S, fs: Fs, inode: u32, leaf: u32) -> Reach
     paths_are_leaves();
     let offsets = path(leaf);
     walk(store, fs, inode, &offsets.as_slice()[1..])
+}
+
+/// Where the pointer to a leaf stands in its block.
+pub fn pointer_offset(leaf: u32) -> u16
+    requires { leaf < leaf_count }
+    ensures offset { result ≡ pointer_offset leaf }
+    ensures within { result + 4 ≤ 512 }
+{
+    paths_are_leaves();
+    path(leaf)[0]
 }
 
 /// The block of a leaf of an inode; 0 for none.
