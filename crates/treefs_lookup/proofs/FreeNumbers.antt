@@ -1,14 +1,12 @@
 -- Leaves of inode 0 that can be given, and those whose pointers stand beside theirs.
-use Rattle.std.proofs.Common.{◌≡◌, ℕ, zero, suc, ◌+◌, ◌-◌, ◌<◌, ◌≤◌, Bool, true, false, List, [], ◌∷◌, drop, length, refl, sym, ◌∙◌, ap, inl, inr, arith, subst, if◌then◌else◌, eq-eqb, ◌==◌}
-use Rattle.std.specs.Prelude.{◌≢◌, nat_lt}
-use Rattle.std.specs.Bool.{MatchBool}
+use Rattle.std.proofs.Common.{◌≡◌, ℕ, ◌+◌, ◌-◌, ◌<◌, ◌≤◌, Bool, List, sym, ◌∙◌, ap, inl, inr, arith, subst, if◌then◌else◌, eq-eqb}
 use Rattle.std.proofs.Math.Seq.{drop-cons}
 use Rattle.std.proofs.lemmas.Bool.{cases_lt, le-ltb, lt-ltb}
 use Rattle.xn_model.specs.Lives.{StoreState}
 use Rattle.xn_model.specs.PendingIn.{pending_in_of}
 use Rattle.treefs_format.specs.Paths.{last_beside, leaf_count, steps}
 use Rattle.treefs_model.specs.Reading.{block_at, leaf_block, pointed}
-use Rattle.treefs_lookup.specs.Numbers.{ArePointed, CanGive, IsCrowded, IsFirstEmpty, IsNextFree, IsNextNumber, NoneCanGive, SomeIsCrowded, holder_of, turn}
+use Rattle.treefs_lookup.specs.Numbers.{ArePointed, CanGive, IsFirstEmpty, IsNextFree, IsNextNumber, NoneCanGive, SomeIsCrowded, holder_of, turn}
 use Rattle.treefs_lookup.specs.Readable.{readable}
 use Rattle.treefs_lookup.specs.Walks.{end_of, holder_steps, pointer_offset, reach}
 use Rattle.treefs_lookup.specs.declared.paths.Reach.{Reach}

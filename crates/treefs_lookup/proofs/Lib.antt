@@ -10,3 +10,4 @@ pub mod FoundNames
 pub mod SoughtBuckets
 pub mod FreeNumbers
 pub mod ReadParts
+pub mod FirstBlocks

@@ -10,7 +10,7 @@ use Rattle.treefs_lookup.proofs.Trees.{is_behind, steps_long}
 use Rattle.treefs_lookup.proofs.Walks.{lacks, lacks_leaf}
 
 module _ (content : ℕ → List ℕ) (inode number : ℕ) (r : Reach) (lt : number < leaf_count) (is : r ≡ reach content inode (steps number)) (lack : r.missing ≢ 0) where
-  missing_is : (reach content inode (steps number)).missing ≡ suc (r.missing - 1)
+  pub missing_is : (reach content inode (steps number)).missing ≡ suc (r.missing - 1)
   missing_is = let some : r.missing ≡ 0 → ⊥ = lack in let e : r.missing ≡ suc (r.missing - 1) = omega arith in ap (λ (x : Reach). x.missing) (sym is) ∙ e
 
   -- as many levels as there are

@@ -153,6 +153,13 @@ some_steps i false = let long = tree_long (height_of i) (place_in_tree i) in ome
 pub steps_some : (i : ℕ) → 0 < length (steps i)
 steps_some i = some_steps i (nat_lt i 16)
 
+-- a leaf's tree begins at or before it
+pub first_past : (i : ℕ) → i < leaf_count → first_leaf (height_of i) ≤ i
+first_past i lt = elim (cases_lt i 16) [
+  | inl own ↦ let e = ap first_leaf (own_height i own) in omega arith
+  | inr ge ↦ let tree = in_tree i ge lt in let e = ap first_leaf tree.1.height in let past = tree.1.past in omega arith
+]
+
 -- Levels
 
 times : (k p q : ℕ) → q ≡ 127 * p → (k + 1) * q ≡ 127 * ((k + 1) * p)
@@ -207,6 +214,8 @@ drop_tree levels h r le =
 pub record IsBeside (i j levels : ℕ) : Type 0 where
   pub few : j < leaf_count
   pub same : drop levels (steps j) ≡ drop levels (steps i)
+  pub height : height_of j ≡ height_of i
+  pub above : place_above levels (place_in_tree j) ≡ place_above levels (place_in_tree i)
 
 pub record IsBehind (i levels : ℕ) : Type 0 where
   pub less : i < behind i levels
@@ -221,7 +230,12 @@ behind_own i levels lt le =
     record {
       less = omega arith;
       few = omega arith;
-      beside = λ j from to. let e : j ≡ i = omega arith in record { few = omega arith; same = ap (λ k. drop levels (steps k)) e };
+      beside = λ j from to. let e : j ≡ i = omega arith in record {
+        few = omega arith;
+        same = ap (λ k. drop levels (steps k)) e;
+        height = ap height_of e;
+        above = ap (λ k. place_above levels (place_in_tree k)) e;
+      };
     }
 
 behind_tree : (i h levels : ℕ) → IsIn i h → levels ≤ h → IsBehind i levels
@@ -245,6 +259,8 @@ behind_tree i h levels is le =
           record {
             few = there.1;
             same = ap (drop levels) (steps_tree j h there.0) ∙ (drop_tree levels h s le ∙ (ap (λ p. map node_offset (places (h - levels) p) ++ tree_offset h ∷ []) same ∙ sym (ap (drop levels) (steps_tree i h is) ∙ drop_tree levels h r le)));
+            height = there.0.height ∙ sym is.height;
+            above = ap (λ k. place_above levels (j - first_leaf k)) there.0.height ∙ (same ∙ sym (ap (λ k. place_above levels (i - first_leaf k)) is.height));
           };
     }
   where
@@ -264,7 +280,15 @@ is_behind i levels lt le = elim (cases_lt i 16) [
 
 -- the leaves whose pointers stand in the same block
 beside_own : (i j : ℕ) → i < 16 → j < 16 → IsBeside i j 1
-beside_own i j own other = record { few = omega arith; same = ap (drop 1) (steps_own j other) ∙ sym (ap (drop 1) (steps_own i own)) }
+beside_own i j own other =
+    let height = own_height i own in
+    let height' = own_height j other in
+    record {
+      few = omega arith;
+      same = ap (drop 1) (steps_own j other) ∙ sym (ap (drop 1) (steps_own i own));
+      height = omega arith;
+      above = ap (λ k. (j - first_leaf k) / 127) height' ∙ ((let e : (j - 0) / 127 ≡ (i - 0) / 127 = omega arith in e) ∙ sym (ap (λ k. (i - first_leaf k) / 127) height));
+    }
 
 last_own : (i : ℕ) → i < 16 → last_beside i ≡ 15
 last_own i own = ap (λ b. if b then 15 else i + (126 - place_in_tree i % 127)) (lt-ltb i 16 own)

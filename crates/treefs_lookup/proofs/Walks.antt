@@ -1,5 +1,5 @@
 -- Paths of pointers, and how far they lead.
-use Rattle.std.proofs.Common.{◌≡◌, ℕ, zero, suc, ◌+◌, ◌<◌, ◌≤◌, ◌≢◌, Bool, true, false, List, [], ◌∷◌, ◌++◌, length, get_or, take, drop, refl, sym, ◌∙◌, ap, arith, ◌==◌, eq-eqb, ne_eqb, take-append-drop, if◌then◌else◌}
+use Rattle.std.proofs.Common.{◌≡◌, ℕ, zero, suc, ◌+◌, ◌<◌, ◌≤◌, ◌≢◌, Bool, true, false, List, [], ◌∷◌, ◌++◌, length, length-drop, get_or, take, drop, refl, sym, ◌∙◌, ap, arith, ◌==◌, eq-eqb, ne_eqb, take-append-drop, drop-drop, ◌-◌, if◌then◌else◌}
 use Rattle.std.proofs.Math.Seq.{drop-cons, drop-nil}
 use Rattle.std.specs.Int.{from_le_bytes, w32}
 use Rattle.xn_model.specs.Root.{word_at}
@@ -98,6 +98,44 @@ module _ (content : ℕ → List ℕ) (top : ℕ) where
   stands [] some none = absurd (omega arith)
   stands (o ∷ offsets) some none = stands_more o (reach content top offsets) (reach content top offsets).missing refl none
 
+  -- where a path lacks blocks, it leads to the last one that is there
+  reached_here : (r : Reach) → r.missing ≡ 0 → r ≡ reached r.block 0
+  reached_here r e = ap (reached r.block) e
+
+  stops_step : (offsets : List ℕ) (o : ℕ) → reach content top offsets ≡ reached (reach content top offsets).block 0 →
+      (t : Bool) → (pointed content (reach content top offsets).block o == 0) ≡ t →
+      reach content top (o ∷ offsets) ≡ (if t then reached (reach content top offsets).block 1 else reached (pointed content (reach content top offsets).block o) 0) →
+      reach content top (drop (reach content top (o ∷ offsets)).missing (o ∷ offsets)) ≡ reached (reach content top (o ∷ offsets)).block 0
+  stops_step offsets o here true none is =
+      ap (λ (r : Reach). reach content top (drop r.missing (o ∷ offsets))) is ∙ (here ∙ sym (ap (λ (r : Reach). reached r.block 0) is))
+  stops_step offsets o here false some is =
+      ap (λ (r : Reach). reach content top (drop r.missing (o ∷ offsets))) is ∙ (is ∙ sym (ap (λ (r : Reach). reached r.block 0) is))
+
+  stops_more : (offsets : List ℕ) (o m : ℕ) → (reach content top offsets).missing ≡ m → reach content top (drop (reach content top offsets).missing offsets) ≡ reached (reach content top offsets).block 0 →
+      reach content top (drop (reach content top (o ∷ offsets)).missing (o ∷ offsets)) ≡ reached (reach content top (o ∷ offsets)).block 0
+  stops_more offsets o zero is before =
+      stops_step offsets o (reached_here (reach content top offsets) is) (pointed content (reach content top offsets).block o == 0) refl (further_none o (reach content top offsets) is)
+  stops_more offsets o (suc n) is before =
+      let r = reach content top offsets in
+      let next : reach content top (o ∷ offsets) ≡ reached r.block (r.missing + 1) = further_some o n r is in
+      let e : r.missing + 1 ≡ suc r.missing = omega arith in
+      ap (λ (x : Reach). reach content top (drop x.missing (o ∷ offsets))) next
+      ∙ (ap (λ k. reach content top (drop k (o ∷ offsets))) e ∙ (before ∙ sym (ap (λ (x : Reach). reached x.block 0) next)))
+
+  stops_at : (offsets : List ℕ) → reach content top (drop (reach content top offsets).missing offsets) ≡ reached (reach content top offsets).block 0
+  stops_at [] = refl
+  stops_at (o ∷ offsets) = stops_more offsets o (reach content top offsets).missing refl (stops_at offsets)
+
+  -- which is a block below the top, where pointers are left
+  pub stands_above : (offsets : List ℕ) (k : ℕ) → (reach content top offsets).missing ≡ k → k < length offsets → block_at content top (drop k offsets) ≢ 0
+  stands_above offsets k is lt = λ none.
+      let r = reach content top offsets in
+      let at : reach content top (drop k offsets) ≡ reached r.block 0 = ap (λ n. reach content top (drop n offsets)) (sym is) ∙ stops_at offsets in
+      let long = length-drop k offsets in
+      let some = stands (drop k offsets) (omega arith) (ap (λ (x : Reach). x.missing) at) in
+      let end : block_at content top (drop k offsets) ≡ r.block = ends (drop k offsets) ∙ ap end_of at in
+      some (ap (λ (x : Reach). x.block) at ∙ (sym end ∙ none))
+
   pub block_at-append : (xs ys : List ℕ) → block_at content top (xs ++ ys) ≡ block_at content (block_at content top ys) xs
   block_at-append [] ys = refl
   block_at-append (x ∷ xs) ys = ap (λ b. pointed content b x) (block_at-append xs ys)
@@ -114,3 +152,13 @@ lacks_leaf content top i j levels same none =
     ap (block_at content top) (sym (take-append-drop levels (steps j)))
     ∙ (block_at-append content top (take levels (steps j)) (drop levels (steps j))
     ∙ (ap (λ b. block_at content b (take levels (steps j))) (ap (block_at content top) same ∙ none) ∙ block_at-zero content (take levels (steps j))))
+
+-- and what stands above the leaf there
+pub lacks_above : (content : ℕ → List ℕ) (top low levels : ℕ) (offsets : List ℕ) → low ≤ levels → block_at content top (drop levels offsets) ≡ 0 →
+    block_at content top (drop low offsets) ≡ 0
+lacks_above content top low levels offsets le none =
+    let e : low + (levels - low) ≡ levels = omega arith in
+    ap (block_at content top) (sym (take-append-drop (levels - low) (drop low offsets)))
+    ∙ (block_at-append content top (take (levels - low) (drop low offsets)) (drop (levels - low) (drop low offsets))
+    ∙ (ap (λ b. block_at content b (take (levels - low) (drop low offsets))) (ap (block_at content top) (drop-drop (levels - low) low offsets ∙ ap (λ n. drop n offsets) e) ∙ none)
+    ∙ block_at-zero content (take (levels - low) (drop low offsets))))

@@ -7,3 +7,4 @@ pub mod Names
 pub mod Sought
 pub mod Numbers
 pub mod Bytes
+pub mod Trimmed

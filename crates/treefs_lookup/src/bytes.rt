@@ -52,7 +52,7 @@ fn copy_leaf<S: Store>(store: &S, fs: Fs, block: u32, at: usize, part: &mut [u8]
 }
 
 /// How many bytes of a content stand together from one on: in the inode, or in a leaf.
-fn part_left(byte: u64) -> u64
+pub(crate) fn part_left(byte: u64) -> u64
     ensures { result ≡ part_left byte }
 {
     if byte < CONTENT_LEN as u64 {
@@ -63,7 +63,7 @@ fn part_left(byte: u64) -> u64
 }
 
 /// Copies bytes of a content that stand together.
-fn copy_part<S: Store>(store: &S, fs: Fs, inode: u32, at: u64, part: &mut [u8])
+pub(crate) fn copy_part<S: Store>(store: &S, fs: Fs, inode: u32, at: u64, part: &mut [u8])
     requires low { at < greatest_size }
     requires within { length part.old ≤ part_left at }
     ensures { part.new ≡ bytes_from (readable (S.state_of store.now) fs.number) inode at (length part.old) }

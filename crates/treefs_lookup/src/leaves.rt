@@ -21,7 +21,7 @@ pub struct Leaf {
 }
 
 /// The first leaf behind all those that stand below the block so many levels above a leaf.
-fn leaf_behind(leaf: u32, levels: usize) -> u32
+pub(crate) fn leaf_behind(leaf: u32, levels: usize) -> u32
     requires there { leaf < leaf_count }
     requires few { levels ≤ height_of leaf }
     ensures { result ≡ behind leaf levels }

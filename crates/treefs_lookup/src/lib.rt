@@ -13,6 +13,7 @@ mod numbers;
 mod paths;
 mod places;
 mod sought;
+mod trimmed;
 
 pub use blocks::{pointer_at, read_block};
 pub use bucket::Bucket;
@@ -25,3 +26,4 @@ pub use numbers::find_number;
 pub use paths::{Reach, find_holder, find_leaf, leaf_block, pointer_offset, walk};
 pub use places::{NamePlace, find_place};
 pub use sought::{Sought, next_bucket};
+pub use trimmed::{is_blank_past, is_trimmed, stands_past};

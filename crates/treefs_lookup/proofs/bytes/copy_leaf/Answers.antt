@@ -1,8 +1,8 @@
-use Rattle.std.proofs.Common.{◌∙◌, ap, arith, map, length}
+use Rattle.std.proofs.Common.{◌∙◌, ap, arith, map}
 use Rattle.std.specs.List.{range_with_len}
 use Rattle.treefs_model.specs.Reading.{leaf_byte}
 use Rattle.treefs_lookup.specs.Readable.{readable}
-use Rattle.treefs_lookup.proofs.ReadParts.{leaf_part, no_leaf, zero_part}
+use Rattle.treefs_lookup.proofs.ReadParts.{no_leaf, zero_part}
 use Rattle.treefs_lookup.proofs.bytes.copy_leaf.Goals as goal
 
 pub returns-then-block-eq0 : goal.returns-then-block-eq0

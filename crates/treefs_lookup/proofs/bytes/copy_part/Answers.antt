@@ -1,4 +1,4 @@
-use Rattle.std.proofs.Common.{◌∙◌, ◌+◌, ap, arith, map, length}
+use Rattle.std.proofs.Common.{◌∙◌, length}
 use Rattle.treefs_lookup.specs.Readable.{readable}
 use Rattle.treefs_lookup.proofs.ReadParts.{in_inode, in_leaf}
 use Rattle.treefs_lookup.proofs.bytes.copy_part.Goals as goal

@@ -1,4 +1,4 @@
-use Rattle.std.proofs.Common.{◌≡◌, ◌+◌, ◌-◌, arith, length}
+use Rattle.std.proofs.Common.{◌≡◌, ◌+◌, ◌-◌, arith}
 use Rattle.treefs_model.specs.Reading.{byte_of}
 use Rattle.treefs_lookup.specs.Readable.{readable}
 use Rattle.treefs_lookup.proofs.ReadParts.{read_step}

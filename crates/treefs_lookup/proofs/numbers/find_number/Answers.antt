@@ -1,7 +1,7 @@
-use Rattle.std.proofs.Common.{◌-◌, ◌≡◌, sym, subst, arith}
+use Rattle.std.proofs.Common.{subst}
 use Rattle.treefs_format.specs.Paths.{leaf_count}
-use Rattle.treefs_lookup.specs.Numbers.{IsNextFree, NoneCanGive}
-use Rattle.treefs_lookup.proofs.FreeNumbers.{first_number, next_number}
+use Rattle.treefs_lookup.specs.Numbers.{NoneCanGive}
+use Rattle.treefs_lookup.proofs.FreeNumbers.{first_number}
 use Rattle.treefs_lookup.proofs.numbers.find_number.Goals as goal
 
 pub returns-in-Ok-next_free : goal.returns-in-Ok-next_free

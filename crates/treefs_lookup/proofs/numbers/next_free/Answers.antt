@@ -1,4 +1,4 @@
-use Rattle.std.proofs.Common.{◌≡◌, ℕ, ◌+◌, ◌<◌, ◌≤◌, Bool, true, false, arith, sym, ◌∙◌, subst}
+use Rattle.std.proofs.Common.{◌≡◌, ◌+◌, ◌≤◌, Bool, true, false, arith, sym, subst}
 use Rattle.std.specs.Bool.{MatchBool}
 use Rattle.xn_model.specs.PendingIn.{pending_in_of}
 use Rattle.treefs_format.specs.Paths.{last_beside, leaf_count}

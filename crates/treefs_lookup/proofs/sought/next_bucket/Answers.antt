@@ -1,4 +1,4 @@
-use Rattle.std.proofs.Common.{arith, sym, ◌∙◌, ◌≤◌}
+use Rattle.std.proofs.Common.{arith, sym, ◌∙◌}
 use Rattle.treefs_lookup.proofs.SoughtBuckets.{without_more}
 use Rattle.treefs_lookup.proofs.sought.next_bucket.Goals as goal
 
