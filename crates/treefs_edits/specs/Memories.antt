@@ -1,14 +1,24 @@
 -- What a session keeps in memory of a volume.
+--     Memory            as a value
 --     touched_times     the times of an inode; newest_times, those of one that changes itself now
 --     with_touched      an inode is touched
 --     without_touched   its times are written
 --     is_past           an edit, and all before it, are durable
-use Rattle.std.specs.Prelude.{ℕ, ◌==◌, nat_lt, Bool, List, [], ◌∷◌, ◌++◌, find, position, remove, slice_set, Option, None, Some}
+use Rattle.std.specs.Prelude.{ℕ, ℤ, ◌==◌, nat_lt, Bool, List, [], ◌∷◌, ◌++◌, find, position, remove, slice_set, Option, None, Some}
 use Rattle.xn_model.specs.Lives.{StoreState}
 use Rattle.xn_model.specs.Calls.{floor_of}
 pub use Rattle.treefs_edits.specs.declared.times.Times.{Times}
 pub use Rattle.treefs_edits.specs.declared.memory.Touched.{Touched}
-pub use Rattle.treefs_edits.specs.declared.memory.Memory.{Memory}
+
+pub record Memory : Type 0 where
+  pub clock : ℤ
+  -- times that no edit has written yet, each inode once
+  pub touched : List Touched
+  -- the numbers of the last edits by which a directory was made or moved, and an inode got one more name
+  pub last_dir : ℕ
+  pub last_link : ℕ
+  pub hint : ℕ
+  pub orphans : List ℕ
 
 abbrev pub times_in : Option Touched → Times → Times
 times_in None times = times
@@ -19,7 +29,7 @@ abbrev pub touched_times : List Touched → ℕ → Times → Times
 touched_times touched number times = times_in (find (λ touch. touch.number == number) touched) times
 
 abbrev pub newest_times : Memory → ℕ → Times → Times
-newest_times memory number times = record { mtime = (touched_times memory.touched.items number times).mtime; ctime = memory.clock }
+newest_times memory number times = record { mtime = (touched_times memory.touched number times).mtime; ctime = memory.clock }
 
 abbrev pub put_at : List Touched → Option ℕ → Touched → List Touched
 put_at touched None touch = touched ++ touch ∷ []

@@ -10,6 +10,7 @@ use crate::act::Act;
 use crate::times::Times;
 use edit_list::{Edit, Patch};
 use std::alloc::{AllocError, Global};
+use treefs_format::records::append_record;
 use treefs_format::{Change, buckets, inodes};
 
 /// Patches of a block that change nothing of what it points to.
@@ -79,7 +80,7 @@ pub fn wait(alloc: Global, block: u32, first: u8, other: u32) -> Result<Act, All
     write_bytes(alloc, block, 0, &[first], Some(other))
 }
 
-/// A record is made at a byte of a block.
+/// A record is made at a byte of a block. The store refuses one that goes past the block.
 pub fn make_record(
     alloc: Global,
     block: u32,
@@ -88,12 +89,12 @@ pub fn make_record(
     name: &[u8],
     behind: Option<u32>,
 ) -> Result<Act, AllocError>
-    requires long { length name.now ≤ 255 }
-    requires within { offset + 5 + length name.now ≤ 512 }
+    requires { length name.now ≤ 255 }
     ensures { IfOk result (λ act. act ≡ record_act block offset (record { number = number; name = name.now }) behind) }
 {
-    let patch = buckets::make_record(alloc, usize::from(offset), number, name)?;
-    one_patch(alloc, block, patch, behind)
+    let mut bytes = Vec::new(alloc);
+    append_record(&mut bytes, number, name)?;
+    one_patch(alloc, block, Patch { offset, bytes }, behind)
 }
 
 /// The number in the record at a byte of a block is set.

@@ -12,6 +12,7 @@ mod room;
 mod runs;
 mod start;
 mod times;
+mod tree;
 
 pub use act::Act;
 pub use memory::{Memory, Touched};
@@ -20,3 +21,4 @@ pub use room::has_room;
 pub use runs::run;
 pub use start::{Start, begin_all, forget_all, lacks_memory};
 pub use times::Times;
+pub use tree::Tree;

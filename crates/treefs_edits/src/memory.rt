@@ -1,10 +1,10 @@
 // What a session keeps in memory of a volume.
 
-ghost use Rattle.std.specs.Prelude.{◌≡◌, ◌+◌, ◌<◌, ◌≤◌, OnOk, vec_capacity, vec_len};
+ghost use Rattle.std.specs.Prelude.{◌≡◌, ◌+◌, ◌<◌, ◌≤◌, vec_capacity, vec_len};
 ghost use Rattle.treefs_edits.specs.Memories.{newest_times, touched_times, with_touched, without_touched};
 
 use crate::times::Times;
-use std::alloc::AllocError;
+use std::marker::Model;
 
 /// Times of an inode that no edit has written yet.
 #[derive(Clone, Copy, Debug)]
@@ -30,6 +30,21 @@ pub struct Memory {
     pub hint: u32,
     /// The inodes without links that are to be freed.
     pub orphans: Vec<u32>,
+}
+
+impl Model for Memory {
+    ghost use Rattle.treefs_edits.specs.Memories as value;
+
+    ghost Value = { value.Memory };
+
+    ghost view = { λ m. record {
+      clock = m.clock;
+      touched = m.touched.items;
+      last_dir = m.last_dir;
+      last_link = m.last_link;
+      hint = m.hint;
+      orphans = m.orphans.items;
+    } };
 }
 
 impl Memory {
@@ -71,6 +86,7 @@ pub fn touch(touched: &mut Vec<Touched>, number: u32, times: Times)
 /// Leaves out the times of an inode, which an edit has written.
 pub fn forget_touch(touched: &mut Vec<Touched>, number: u32)
     ensures touched { touched.new.items ≡ without_touched touched.old.items number }
+    ensures length { vec_len touched.new ≤ vec_len touched.old }
     ensures capacity { vec_capacity touched.new ≡ vec_capacity touched.old }
 {
     if let Some(place) = touched.iter().position(|touch| touch.number == number) {

@@ -8,16 +8,25 @@ use edit_list::Fs;
 use xn_state::Store;
 
 /// How many entries of a file system and of a block are pending at most once a call is done. The store takes 4,096 and 64.
-const MOST_PENDING: u64 = 4096;
+const MOST_PENDING: usize = 4096;
 
 const MOST_IN_BLOCK: u64 = 62;
 
 /// Whether there is room for so many more edits, where so many inodes have times that no edit has written; and in each of some blocks
 /// for so many entries. A call that has no room is `Full`, before its first edit.
-pub fn has_room<S: Store>(store: &S, fs: Fs, touched: u32, edits: u32, parts: &[(u32, u32)]) -> bool
+pub fn has_room<S: Store>(
+    store: &S,
+    fs: Fs,
+    touched: usize,
+    edits: u32,
+    parts: &[(u32, u32)],
+) -> bool
     ensures { result ≡ has_room (S.state_of store.now) fs.number touched edits parts.now }
 {
-    let pending = u64::from(store.pending(fs)) + u64::from(touched) + u64::from(edits) + 2;
+    if touched > MOST_PENDING {
+        return false;
+    }
+    let pending = store.pending(fs) as usize + touched + edits as usize + 2;
     pending <= MOST_PENDING && have_room(store, parts)
 }
 
