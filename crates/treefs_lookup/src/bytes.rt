@@ -52,7 +52,7 @@ fn copy_leaf<S: Store>(store: &S, fs: Fs, block: u32, at: usize, part: &mut [u8]
 }
 
 /// How many bytes of a content stand together from one on: in the inode, or in a leaf.
-pub(crate) fn part_left(byte: u64) -> u64
+pub fn part_left(byte: u64) -> u64
     ensures { result ≡ part_left byte }
 {
     if byte < CONTENT_LEN as u64 {
