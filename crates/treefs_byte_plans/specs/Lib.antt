@@ -1,3 +1,5 @@
 pub mod Attributes
 pub mod Writes
 pub mod Sizes
+pub mod Cuts
+pub mod Drops

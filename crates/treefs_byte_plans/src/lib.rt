@@ -3,6 +3,9 @@
 #![tactic(auto)]
 
 mod attributes;
+mod cuts;
+mod drop_plan;
+mod drops;
 mod patches;
 mod piece;
 mod size;
@@ -10,6 +13,9 @@ mod truncates;
 mod writes;
 
 pub use attributes::{Attributes, AttributesPlan, Owner, plan_attributes};
+pub use cuts::{Cut, next_cut};
+pub use drop_plan::DropPlan;
+pub use drops::plan_drop;
 pub use piece::{ContentPlan, LeafPlan, WriteStep};
 pub use size::{SizePlan, TruncateStep};
 pub use truncates::plan_truncate;
