@@ -3,3 +3,4 @@ pub mod Writes
 pub mod Sizes
 pub mod Cuts
 pub mod Drops
+pub mod Blanks

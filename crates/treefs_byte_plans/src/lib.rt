@@ -3,6 +3,8 @@
 #![tactic(auto)]
 
 mod attributes;
+mod blank;
+mod blanks;
 mod cuts;
 mod drop_plan;
 mod drops;
@@ -13,6 +15,8 @@ mod truncates;
 mod writes;
 
 pub use attributes::{Attributes, AttributesPlan, Owner, plan_attributes};
+pub use blank::BlankPlan;
+pub use blanks::plan_blank;
 pub use cuts::{Cut, next_cut};
 pub use drop_plan::DropPlan;
 pub use drops::plan_drop;

@@ -33,7 +33,11 @@ impl Planned for SizePlan {
 }
 
 /// Adds the patch of zeros from a byte of a block on to its end, if one is told.
-fn push_zeros(alloc: Global, patches: &mut Vec<Patch>, from: Option<u16>) -> Result<(), AllocError>
+pub(crate) fn push_zeros(
+    alloc: Global,
+    patches: &mut Vec<Patch>,
+    from: Option<u16>,
+) -> Result<(), AllocError>
     ensures { IfOk result (λ _. patches.new.items ≡ patches.old.items ++ zero_parts from) }
 {
     if let Some(offset) = from {
@@ -47,7 +51,7 @@ fn push_zeros(alloc: Global, patches: &mut Vec<Patch>, from: Option<u16>) -> Res
 }
 
 /// Whether bytes are there behind a size, in the inode.
-fn has_bytes_behind<S: Store>(store: &S, tree: Tree, inode: u32, size: u64) -> bool
+pub(crate) fn has_bytes_behind<S: Store>(store: &S, tree: Tree, inode: u32, size: u64) -> bool
     ensures { result ≡ has_bytes_behind (readable (S.state_of store.now) tree.fs.number) inode size }
 {
     size < CONTENT_LEN as u64 && !is_blank_past(store, tree.fs, inode, size)
