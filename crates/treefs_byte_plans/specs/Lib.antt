@@ -4,3 +4,4 @@ pub mod Sizes
 pub mod Cuts
 pub mod Drops
 pub mod Blanks
+pub mod Roots
