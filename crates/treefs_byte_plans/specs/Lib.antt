@@ -5,3 +5,4 @@ pub mod Cuts
 pub mod Drops
 pub mod Blanks
 pub mod Roots
+pub mod Waits

@@ -14,6 +14,8 @@ mod roots;
 mod roots_plan;
 mod size;
 mod truncates;
+mod waits;
+mod waits_plan;
 mod writes;
 
 pub use attributes::{Attributes, AttributesPlan, Owner, plan_attributes};
@@ -27,4 +29,6 @@ pub use roots::plan_roots;
 pub use roots_plan::{Pointer, RootsPlan};
 pub use size::{SizePlan, TruncateStep};
 pub use truncates::plan_truncate;
+pub use waits::plan_waits;
+pub use waits_plan::WaitsPlan;
 pub use writes::plan_write;

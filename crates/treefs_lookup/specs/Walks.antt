@@ -1,12 +1,13 @@
 -- Paths of pointers, and how far they lead. A path is the offsets of its pointers, the last one first.
 --     reach content top offsets    the last block of a path that is there, and how many behind it are missing
 --     end_of reach                 the block to which the whole path leads; 0 where one is missing
+--     path_blocks content top offsets    the blocks on a path
 --     holder_steps leaf            the path to the block that has the pointer to a leaf
 --     pointer_offset leaf          where it stands there
 --     behind leaf levels           the first leaf behind all that stand below the block so many levels above a leaf
-use Rattle.std.specs.Prelude.{ℕ, zero, suc, ◌+◌, ◌*◌, ◌/◌, ◌^◌, ◌==◌, List, [], ◌∷◌, drop, slice_index, if◌then◌else◌}
+use Rattle.std.specs.Prelude.{ℕ, zero, suc, ◌+◌, ◌*◌, ◌/◌, ◌^◌, ◌==◌, List, [], ◌∷◌, ◌++◌, drop, slice_index, if◌then◌else◌}
 use Rattle.treefs_format.specs.Paths.{first_leaf, height_of, place_in_tree, steps}
-use Rattle.treefs_model.specs.Reading.{pointed}
+use Rattle.treefs_model.specs.Reading.{block_at, pointed}
 use Rattle.treefs_lookup.specs.declared.paths.Reach.{Reach}
 
 abbrev pub reached : ℕ → ℕ → Reach
@@ -25,6 +26,11 @@ reach content top (offset ∷ offsets) = further content offset (reach content t
 
 abbrev pub end_of : Reach → ℕ
 end_of r = if r.missing == 0 then r.block else 0
+
+-- the blocks on a path, from the top; 0 for each that is missing
+abbrev pub path_blocks : (ℕ → List ℕ) → ℕ → List ℕ → List ℕ
+path_blocks content top [] = []
+path_blocks content top (offset ∷ offsets) = path_blocks content top offsets ++ block_at content top (offset ∷ offsets) ∷ []
 
 abbrev pub holder_steps : ℕ → List ℕ
 holder_steps leaf = drop 1 (steps leaf)

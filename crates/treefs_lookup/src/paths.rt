@@ -1,12 +1,13 @@
 // Paths of pointers from inodes to leaves.
 
-ghost use Rattle.std.specs.Prelude.{◌≡◌, ◌+◌, ◌<◌, ◌≤◌, All};
+ghost use Rattle.std.specs.Prelude.{◌≡◌, ◌+◌, ◌<◌, ◌≤◌, All, length};
 ghost use Rattle.treefs_format.specs.Paths.{leaf_count, steps};
 ghost use Rattle.treefs_lookup.specs.Readable.{readable};
-ghost use Rattle.treefs_lookup.specs.Walks.{end_of, holder_steps, pointer_offset, reach};
+ghost use Rattle.treefs_lookup.specs.Walks.{end_of, holder_steps, path_blocks, pointer_offset, reach};
 ghost use Rattle.treefs_model.specs.Reading.{leaf_block};
 
 use crate::blocks::pointer_at;
+use arrayvec::ArrayVec;
 use edit_list::Fs;
 use treefs_format::law::paths_are_leaves;
 use treefs_format::paths::path;
@@ -49,6 +50,33 @@ pub fn walk<S: Store>(store: &S, fs: Fs, top: u32, offsets: &[u16]) -> Reach
         left -= 1;
     }
     Reach { block, missing: 0 }
+}
+
+/// The blocks on a path from a block, from the top; 0 for each that is missing.
+fn walk_blocks<S: Store>(store: &S, fs: Fs, top: u32, offsets: &[u16]) -> ArrayVec<u32, 5>
+    requires within { All (λ offset. offset + 4 ≤ 512) offsets.now }
+    requires few { length offsets.now ≤ 5 }
+    ensures { result.items ≡ path_blocks (readable (S.state_of store.now) fs.number) top offsets.now }
+{
+    let mut blocks = ArrayVec::new();
+    let mut block = top;
+    let mut left = offsets.len();
+    while left > 0 {
+        block = pointer_at(store, fs, block, offsets[left - 1]);
+        blocks.push(block);
+        left -= 1;
+    }
+    blocks
+}
+
+/// The blocks on the path to a leaf of an inode, from the top, the leaf last; 0 for each that is missing.
+pub fn path_blocks<S: Store>(store: &S, fs: Fs, inode: u32, leaf: u32) -> ArrayVec<u32, 5>
+    requires { leaf < leaf_count }
+    ensures { result.items ≡ path_blocks (readable (S.state_of store.now) fs.number) inode (steps leaf) }
+{
+    paths_are_leaves();
+    let offsets = path(leaf);
+    walk_blocks(store, fs, inode, offsets.as_slice())
 }
 
 /// How far the path to a leaf leads, from the block of its inode.
