@@ -1,4 +1,4 @@
-use Rattle.std.proofs.Common.{◌≡◌, ◌∙◌, ◌-◌, ◌/◌, ◌^◌, Some, None, ap, arith, suc, sym}
+use Rattle.std.proofs.Common.{◌≡◌, ◌∙◌, ◌-◌, ◌/◌, Some, None, ap, arith, suc, sym}
 use Rattle.treefs_lookup.specs.Readable.{readable}
 use Rattle.treefs_byte_plans.specs.Cuts.{cut_place, own_cut}
 use Rattle.treefs_byte_plans.proofs.CutPlaces.{below_is, below_none, cut_ends, cut_first, cut_here, cut_on}

@@ -1,4 +1,4 @@
-use Rattle.std.proofs.Common.{◌≡◌, ◌≤◌, ◌-◌, ◌++◌, ◌∙◌, ap, arith, length, sym}
+use Rattle.std.proofs.Common.{◌++◌, ◌∙◌, ap, arith, length, sym}
 use Rattle.treefs_byte_plans.specs.Drops.{dropped}
 use Rattle.treefs_byte_plans.proofs.DroppedBlocks.{dropped_left, joined_more, joined_none, joined_past, left_first}
 use Rattle.treefs_lookup.specs.Readable.{readable}

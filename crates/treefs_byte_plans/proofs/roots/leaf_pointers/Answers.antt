@@ -1,4 +1,4 @@
-use Rattle.std.proofs.Common.{◌≤◌, ◌-◌, arith, length}
+use Rattle.std.proofs.Common.{arith}
 use Rattle.treefs_byte_plans.specs.Roots.{leaf_pointers}
 use Rattle.treefs_byte_plans.proofs.RootPointers.{leaf_more, leaf_past}
 use Rattle.treefs_lookup.specs.Readable.{readable}
