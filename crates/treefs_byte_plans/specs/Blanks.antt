@@ -30,7 +30,8 @@ has_tail content inode size =
 
 abbrev pub tail_in_room : StoreState → ℕ → Memory → ℕ → ℕ → ℕ → Result (Option BlankPlan) Fault
 tail_in_room state fs memory inode leaf size =
-    if has_room state fs (length memory.touched) 10 ((leaf, 1) ∷ []) then Ok (Some (record { block = leaf; offset = size % 512; behind = Some inode })) else Err Full
+    if has_room state fs (length memory.touched) 10 ((leaf, 1) ∷ []) then Ok (Some (record { block = leaf; offset = size % 512; behind = Some inode }))
+    else Err Full
 
 abbrev pub blank_planned : StoreState → ℕ → Memory → ℕ → ℕ → Result (Option BlankPlan) Fault
 blank_planned state fs memory inode size =

@@ -15,7 +15,8 @@ abbrev pub is_pointed : (ℕ → List ℕ) → ℕ → ℕ → Bool
 is_pointed content block place = not (pointed content block (node_offset place) == 0)
 
 abbrev pub own_cut : (ℕ → List ℕ) → ℕ → ℕ → Option Cut
-own_cut content block place = if list_any (is_pointed content block) (range_with_len place (127 - place)) then Some (record { block = block; place = place }) else None
+own_cut content block place =
+    if list_any (is_pointed content block) (range_with_len place (127 - place)) then Some (record { block = block; place = place }) else None
 
 abbrev pub cut_place : ℕ → ℕ → ℕ
 cut_place keep span = if keep % span == 0 then keep / span else keep / span + 1

@@ -2,7 +2,8 @@
 --     dropped                the blocks to which a node points from a place on
 --     drop_acts, drop_plan   what a plan does
 --     IsDropPlanned          what the next drop in the trees of an inode takes, that keeps so many leaves
-use Rattle.std.specs.Prelude.{◌≡◌, ℕ, ◌-◌, ◌==◌, not, List, [], ◌∷◌, filter, length, map, Option, None, Some, Result, Ok, Err, IsOkAnd, IsSomeAnd, MatchBool, MatchOption}
+use Rattle.std.specs.Prelude.{◌≡◌, ℕ, ◌-◌, ◌==◌, not, List, [], ◌∷◌, filter, length}
+use Rattle.std.specs.Prelude.{map, Option, None, Some, Result, Ok, Err, IsOkAnd, IsSomeAnd, MatchBool, MatchOption}
 use Rattle.std.specs.List.{range_with_len}
 use Rattle.xn_model.specs.Lives.{StoreState}
 use Rattle.treefs_format.specs.Paths.{node_offset}

@@ -21,7 +21,8 @@ abbrev pub tree_pointer : (ℕ → List ℕ) → ℕ → ℕ → ℕ → List Po
 tree_pointer content inode keep h = if nat_le keep (first_leaf h) then pointer_if content inode (tree_offset h) else []
 
 abbrev pub tree_pointers : (ℕ → List ℕ) → ℕ → ℕ → List Pointer
-tree_pointers content inode keep = tree_pointer content inode keep 4 ++ (tree_pointer content inode keep 3 ++ (tree_pointer content inode keep 2 ++ tree_pointer content inode keep 1))
+tree_pointers content inode keep =
+    tree_pointer content inode keep 4 ++ (tree_pointer content inode keep 3 ++ (tree_pointer content inode keep 2 ++ tree_pointer content inode keep 1))
 
 abbrev pub leaf_pointers : (ℕ → List ℕ) → ℕ → ℕ → List Pointer
 leaf_pointers content inode keep = flat_map (λ leaf. pointer_if content inode (leaf_offset leaf)) (range_with_len keep (16 - keep))

@@ -2,7 +2,8 @@
 --     SizePlan, size_plan       one edit of the inode's block: the size where it changes, the times, and zeros behind the size in the inode
 --     blank_from                the byte of the block from which on zeros are written, where bytes are there behind a size that falls
 --     IsTruncatePlanned         what a call that sets a size answers, or takes before all that is trimmed
-use Rattle.std.specs.Prelude.{◌≡◌, ◌⊎◌, ℕ, ◌+◌, ◌-◌, ◌==◌, nat_lt, Bool, not, ◌&&◌, List, [], ◌∷◌, length, replicate, Option, None, Some, Result, Ok, Err, MatchResult, if◌then◌else◌}
+use Rattle.std.specs.Prelude.{◌≡◌, ◌⊎◌, ℕ, ◌+◌, ◌-◌, ◌==◌, nat_lt, Bool, not, ◌&&◌, List}
+use Rattle.std.specs.Prelude.{[], ◌∷◌, length, replicate, Option, None, Some, Result, Ok, Err, MatchResult, if◌then◌else◌}
 use Rattle.xn_model.specs.Calls.{Patch}
 use Rattle.xn_model.specs.Lists.{blank}
 use Rattle.xn_model.specs.Lives.{StoreState}
@@ -73,4 +74,5 @@ truncated_file content top number size = and_then (file_found content top number
 
 abbrev pub IsTruncatePlanned : StoreState → Tree → Memory → ℕ → ℕ → Result TruncateStep Fault → Type 0
 IsTruncatePlanned state tree memory number size result =
-    MatchResult (truncated_file (readable state tree.fs.number) tree.top number size) (λ file. IsSizePlanned state tree.fs.number memory file size result) (λ fault. result ≡ Err fault)
+    MatchResult (truncated_file (readable state tree.fs.number) tree.top number size) (λ file. IsSizePlanned state tree.fs.number memory file size result)
+    (λ fault. result ≡ Err fault)

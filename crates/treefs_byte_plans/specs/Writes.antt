@@ -4,7 +4,8 @@
 --     Step               what comes next: nothing, a trim, acts that take so many bytes, or leaves that are missing from one on
 --     NeedsTrim          the size rises up to an end, and something stands past it
 --     IsWritePlanned     what the next piece of a write answers, or takes
-use Rattle.std.specs.Prelude.{◌≡◌, ◌⊎◌, ℕ, ◌+◌, ◌/◌, ◌%◌, ◌<◌, ◌==◌, nat_le, nat_lt, List, [], ◌∷◌, length, take, Option, None, Some, Result, Ok, Err, MatchBool, MatchResult, if◌then◌else◌}
+use Rattle.std.specs.Prelude.{◌≡◌, ◌⊎◌, ℕ, ◌+◌, ◌/◌, ◌%◌, ◌<◌, ◌==◌, nat_le, nat_lt, List, []}
+use Rattle.std.specs.Prelude.{◌∷◌, length, take, Option, None, Some, Result, Ok, Err, MatchBool, MatchResult, if◌then◌else◌}
 use Rattle.xn_model.specs.Calls.{Patch}
 use Rattle.xn_model.specs.Lives.{StoreState}
 use Rattle.treefs_format.specs.Fields.{changes_patch}
@@ -90,7 +91,8 @@ planned_step (Err fault) = Err fault
 
 abbrev pub content_step : Memory → Found → ℕ → List ℕ → Step
 content_step memory file at bytes = Acts (length bytes)
-    (patch_act file.block (content_patch at bytes ∷ changes_patch (size_changes (risen file.fields.size (at + length bytes)) (times_now memory)) ∷ []) None ∷ [])
+    (patch_act file.block
+    (content_patch at bytes ∷ changes_patch (size_changes (risen file.fields.size (at + length bytes)) (times_now memory)) ∷ []) None ∷ [])
 
 abbrev pub leaf_step : Memory → Found → ℕ → ℕ → List ℕ → Step
 leaf_step memory file leaf at bytes = Acts (length bytes)

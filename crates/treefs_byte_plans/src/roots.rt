@@ -1,7 +1,8 @@
 // How pointers in an inode are dropped.
 
 ghost use Rattle.std.specs.Prelude.{◌≡◌, ◌+◌, ◌<◌, ◌≤◌, ◌++◌, length, map, IfOk, MatchOption};
-ghost use Rattle.treefs_byte_plans.specs.Roots.{HasNoRoots, IsRootsPlanned, blocks_of, last_offset, leaf_patches, leaf_pointers, roots_plan, tree_patch, tree_pointer, tree_pointers};
+ghost use Rattle.treefs_byte_plans.specs.Roots.{HasNoRoots, IsRootsPlanned, blocks_of, last_offset, leaf_patches};
+ghost use Rattle.treefs_byte_plans.specs.Roots.{leaf_pointers, roots_plan, tree_patch, tree_pointer, tree_pointers};
 ghost use Rattle.treefs_lookup.specs.Readable.{readable};
 
 use crate::roots_plan::{Pointer, RootsPlan};

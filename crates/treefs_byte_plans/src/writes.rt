@@ -2,7 +2,8 @@
 
 ghost use Rattle.std.specs.Prelude.{◌≡◌, ◌+◌, ◌<◌, ◌≤◌, ◌∷◌, ◌++◌, [], length, take, IfOk, Some};
 ghost use Rattle.std.specs.Bool.{MatchBool};
-ghost use Rattle.treefs_byte_plans.specs.Writes.{IsWritePlanned, NeedsTrim, bytes_patch, content_in_room, content_plan, leaf_in_room, leaf_plan, piece_step, planned_step, risen, size_acts, size_changes, times_now};
+ghost use Rattle.treefs_byte_plans.specs.Writes.{IsWritePlanned, NeedsTrim, bytes_patch, content_in_room, content_plan, leaf_in_room};
+ghost use Rattle.treefs_byte_plans.specs.Writes.{leaf_plan, piece_step, planned_step, risen, size_acts, size_changes, times_now};
 ghost use Rattle.treefs_format.specs.Fields.{changes_patch};
 ghost use Rattle.treefs_format.specs.Leaves.{greatest_size};
 ghost use Rattle.treefs_lookup.specs.Bytes.{part_left};

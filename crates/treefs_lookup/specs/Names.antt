@@ -2,7 +2,8 @@
 --     slot_of, slot_named            where the live record of a name stands in a directory
 --     entry_found                    the same of a directory's number: its faults, then `BadName` and `NoEntry`
 --     place_of                       where a new name goes
-use Rattle.std.specs.Prelude.{ℕ, ◌+◌, ◌-◌, ◌==◌, Bool, ◌&&◌, nat_le, List, [], ◌∷◌, length, Option, None, Some, Result, Ok, Err, option_map, is_none, if◌then◌else◌}
+use Rattle.std.specs.Prelude.{ℕ, ◌+◌, ◌-◌, ◌==◌, Bool, ◌&&◌, nat_le, List, [], ◌∷◌}
+use Rattle.std.specs.Prelude.{length, Option, None, Some, Result, Ok, Err, option_map, is_none, if◌then◌else◌}
 use Rattle.std.specs.List.{list_any}
 use Rattle.std.specs.Option.{ok_or, option_or}
 use Rattle.xn_model.specs.Lives.{StoreState}

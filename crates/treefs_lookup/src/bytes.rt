@@ -104,7 +104,8 @@ pub fn read<S: Store>(
     bytes: &mut [u8],
 ) -> Result<usize, Fault>
     ensures count { result ≡ read_count (file_found (readable (S.state_of store.now) fs.number) top number) at (length bytes.old) }
-    ensures bytes { bytes.new ≡ read_into (readable (S.state_of store.now) fs.number) (file_found (readable (S.state_of store.now) fs.number) top number) at bytes.old }
+    ensures bytes { bytes.new ≡ read_into (readable (S.state_of store.now) fs.number)
+        (file_found (readable (S.state_of store.now) fs.number) top number) at bytes.old }
 {
     let file = find_file(store, fs, top, number)?;
     Ok(read_bytes(store, fs, &file, at, bytes))
@@ -120,7 +121,8 @@ pub fn read_link<S: Store>(
     bytes: &mut [u8],
 ) -> Result<usize, Fault>
     ensures count { result ≡ read_count (link_found (readable (S.state_of store.now) fs.number) top number) at (length bytes.old) }
-    ensures bytes { bytes.new ≡ read_into (readable (S.state_of store.now) fs.number) (link_found (readable (S.state_of store.now) fs.number) top number) at bytes.old }
+    ensures bytes { bytes.new ≡ read_into (readable (S.state_of store.now) fs.number)
+        (link_found (readable (S.state_of store.now) fs.number) top number) at bytes.old }
 {
     let link = find_link(store, fs, top, number)?;
     Ok(read_bytes(store, fs, &link, at, bytes))
