@@ -1,0 +1,14 @@
+// A volume: the files and directories of a file system.
+
+use treefs_edits::{Memory, Tree};
+
+mod names;
+
+/// A volume of a store, with what its session keeps in memory.
+#[derive(Debug, Drop)]
+pub struct Volume {
+    /// Where it stands in its store.
+    pub tree: Tree,
+    /// What the session keeps in memory.
+    pub memory: Memory,
+}

@@ -1,0 +1,48 @@
+// The calls on names.
+
+ghost use Rattle.std.specs.Prelude.{◌≡◌};
+ghost use Rattle.treefs.specs.Unlinking.{UnlinkDoes};
+
+use crate::memory::{note_orphan, touch_end};
+use crate::volume::Volume;
+use std::alloc::Global;
+use treefs_edits::{Times, carry_out, lacks_memory};
+use treefs_model::Fault;
+use treefs_name_plans::plan_unlink;
+use xn_state::Store;
+
+impl Volume {
+    /// Takes the name of a file or a symbolic link out of a directory; where it was the last one, its inode is an orphan. The faults are, in
+    /// this order, those of the directory (`NoEntry`, `NotDir`, `NoEntry` where it has no link), `BadName`, `NoEntry`, `IsDir`, `Full`. `Kernel`
+    /// comes for want of memory, where nothing is done, or where the store refuses an edit.
+    pub fn unlink<S: Store>(
+        &mut self,
+        alloc: Global,
+        store: &mut S,
+        directory: u32,
+        name: &[u8],
+    ) -> Result<(), Fault>
+        ensures types { S.types_of store.new ≡ S.types_of store.old }
+        ensures does { UnlinkDoes (S.types_of store.old) (S.state_of store.old) (S.state_of store.new) self.old self.new directory name.now result }
+    {
+        let tree = self.tree;
+        let memory = &mut self.memory;
+        let plan = plan_unlink(store, tree, memory, directory, name)?;
+        memory
+            .touched
+            .reserve(1)
+            .map_err(|error| lacks_memory(error))?;
+        memory
+            .orphans
+            .reserve(1)
+            .map_err(|error| lacks_memory(error))?;
+        carry_out(alloc, store, tree.fs, &plan)?;
+        let now = Times {
+            mtime: memory.clock,
+            ctime: memory.clock,
+        };
+        touch_end(&mut memory.touched, now, directory, &plan);
+        note_orphan(&mut memory.orphans, &plan);
+        Ok(())
+    }
+}

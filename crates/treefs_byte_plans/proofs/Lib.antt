@@ -1,0 +1,3 @@
+pub mod CutPlaces
+pub mod DroppedBlocks
+pub mod RootPointers

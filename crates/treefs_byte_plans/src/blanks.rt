@@ -1,0 +1,87 @@
+// How bytes past the size of a file become 0.
+
+ghost use Rattle.std.specs.Prelude.{◌≡◌};
+ghost use Rattle.treefs_byte_plans.specs.Blanks.{blank_plan, blank_planned, has_tail, tail_in_room};
+ghost use Rattle.treefs_lookup.specs.Readable.{readable};
+
+use crate::blank::BlankPlan;
+use crate::patches::patch_act;
+use crate::truncates::{has_bytes_behind, push_zeros};
+use std::alloc::{AllocError, Global};
+use treefs_edits::{Act, Memory, Planned, Start, Tree, has_room};
+use treefs_format::inodes::{CONTENT, CONTENT_LEN};
+use treefs_format::sizes::GREATEST_SIZE;
+use treefs_lookup::{is_blank_past, leaf_block};
+use treefs_model::Fault;
+use xn_state::Store;
+
+impl Planned for BlankPlan {
+    ghost plan = { blank_plan };
+
+    fn starts(&self, alloc: Global) -> Result<Vec<Start>, AllocError> {
+        Ok(Vec::new(alloc))
+    }
+
+    fn acts(&self, alloc: Global, _begun: &[u32]) -> Result<Vec<Act>, AllocError> {
+        let mut patches = Vec::new(alloc);
+        push_zeros(alloc, &mut patches, Some(self.offset))?;
+        let act = patch_act(alloc, self.block, patches, self.behind);
+        Ok(Vec::from_array(alloc, [act])?)
+    }
+}
+
+/// Whether a size ends in the middle of a leaf, and bytes are there behind it.
+fn has_tail<S: Store>(store: &S, tree: Tree, inode: u32, size: u64) -> bool
+    ensures { result ≡ has_tail (readable (S.state_of store.now) tree.fs.number) inode size }
+{
+    (CONTENT_LEN as u64) < size
+        && size < GREATEST_SIZE
+        && size % 512 != 0
+        && !is_blank_past(store, tree.fs, inode, size)
+}
+
+/// What it takes that the bytes of a leaf behind a size become 0, where there is room; else the fault is `Full`.
+fn plan_tail<S: Store>(
+    store: &S,
+    tree: Tree,
+    memory: &Memory,
+    inode: u32,
+    leaf: u32,
+    size: u64,
+) -> Result<Option<BlankPlan>, Fault>
+    ensures { result ≡ tail_in_room (S.state_of store.now) tree.fs.number memory.now inode leaf size }
+{
+    if !has_room(store, tree.fs, memory.touched.len(), 10, &[(leaf, 1)]) {
+        return Err(Fault::Full);
+    }
+    Ok(Some(BlankPlan {
+        block: leaf,
+        offset: (size % 512) as u16,
+        behind: Some(inode),
+    }))
+}
+
+/// What it takes that the bytes of an inode past its size become 0, in the inode or in the last leaf that the size keeps, if there are any. The fault is
+/// `Full` where there is no room.
+pub fn plan_blank<S: Store>(
+    store: &S,
+    tree: Tree,
+    memory: &Memory,
+    inode: u32,
+    size: u64,
+) -> Result<Option<BlankPlan>, Fault>
+    ensures { result ≡ blank_planned (S.state_of store.now) tree.fs.number memory.now inode size }
+{
+    if has_bytes_behind(store, tree, inode, size) {
+        return Ok(Some(BlankPlan {
+            block: inode,
+            offset: (CONTENT as u64 + size) as u16,
+            behind: None,
+        }));
+    }
+    if !has_tail(store, tree, inode, size) {
+        return Ok(None);
+    }
+    let leaf = leaf_block(store, tree.fs, inode, (size / 512) as u32);
+    plan_tail(store, tree, memory, inode, leaf, size)
+}

@@ -1,0 +1,132 @@
+// How a size is set.
+
+ghost use Rattle.std.specs.Prelude.{◌≡◌, ◌++◌, IfOk};
+ghost use Rattle.treefs_byte_plans.specs.Sizes.{IsTruncatePlanned, blank_from, changed_size, has_bytes_behind, most_edits, size_in_room, size_plan, zero_parts};
+ghost use Rattle.treefs_lookup.specs.Readable.{readable};
+
+use crate::patches::patch_act;
+use crate::size::{SizePlan, TruncateStep};
+use crate::writes::{push_size, times_now};
+use edit_list::Patch;
+use std::alloc::{AllocError, Global};
+use treefs_edits::{Act, Memory, Planned, Start, Tree, has_room};
+use treefs_format::inodes::{CONTENT, CONTENT_LEN};
+use treefs_format::sizes::GREATEST_SIZE;
+use treefs_lookup::{Found, find_file, is_blank_past, is_trimmed};
+use treefs_model::Fault;
+use xn_state::Store;
+
+impl Planned for SizePlan {
+    ghost plan = { size_plan };
+
+    fn starts(&self, alloc: Global) -> Result<Vec<Start>, AllocError> {
+        Ok(Vec::new(alloc))
+    }
+
+    fn acts(&self, alloc: Global, _begun: &[u32]) -> Result<Vec<Act>, AllocError> {
+        let mut patches = Vec::new(alloc);
+        push_size(alloc, &mut patches, self.size, self.times)?;
+        push_zeros(alloc, &mut patches, self.blank_from)?;
+        let act = patch_act(alloc, self.block, patches, None);
+        Ok(Vec::from_array(alloc, [act])?)
+    }
+}
+
+/// Adds the patch of zeros from a byte of a block on to its end, if one is told.
+pub(crate) fn push_zeros(
+    alloc: Global,
+    patches: &mut Vec<Patch>,
+    from: Option<u16>,
+) -> Result<(), AllocError>
+    ensures { IfOk result (λ _. patches.new.items ≡ patches.old.items ++ zero_parts from) }
+{
+    if let Some(offset) = from {
+        let count = 512usize.saturating_sub(usize::from(offset));
+        patches.push(Patch {
+            offset,
+            bytes: vec![in alloc; 0; count]?,
+        })?;
+    }
+    Ok(())
+}
+
+/// Whether bytes are there behind a size, in the inode.
+pub(crate) fn has_bytes_behind<S: Store>(store: &S, tree: Tree, inode: u32, size: u64) -> bool
+    ensures { result ≡ has_bytes_behind (readable (S.state_of store.now) tree.fs.number) inode size }
+{
+    size < CONTENT_LEN as u64 && !is_blank_past(store, tree.fs, inode, size)
+}
+
+/// From where on zeros are written behind a size that is set.
+fn blank_from<S: Store>(store: &S, tree: Tree, file: &Found, size: u64) -> Option<u16>
+    ensures { result ≡ blank_from (readable (S.state_of store.now) tree.fs.number) file.now size }
+{
+    if size < file.fields.size && has_bytes_behind(store, tree, file.block, size) {
+        Some((CONTENT as u64 + size) as u16)
+    } else {
+        None
+    }
+}
+
+/// The size that is set, where it changes.
+fn changed_size(old: u64, new: u64) -> Option<u64>
+    ensures { result ≡ changed_size old new }
+{
+    if new == old { None } else { Some(new) }
+}
+
+/// How many edits setting a size takes at most.
+fn most_edits(file: &Found, size: u64) -> u32
+    ensures { result ≡ most_edits file.now size }
+{
+    if size < file.fields.size { 12 } else { 1 }
+}
+
+/// What setting the size of a trimmed file takes, where there is room; else the fault is `Full`.
+fn plan_size<S: Store>(
+    store: &S,
+    tree: Tree,
+    memory: &Memory,
+    file: &Found,
+    size: u64,
+) -> Result<TruncateStep, Fault>
+    ensures { result ≡ size_in_room (S.state_of store.now) tree.fs.number memory.now file.now size }
+{
+    let edits = most_edits(file, size);
+    if !has_room(
+        store,
+        tree.fs,
+        memory.touched.len(),
+        edits,
+        &[(file.block, edits)],
+    ) {
+        return Err(Fault::Full);
+    }
+    Ok(TruncateStep::Size(SizePlan {
+        block: file.block,
+        size: changed_size(file.fields.size, size),
+        times: times_now(memory),
+        blank_from: blank_from(store, tree, file, size),
+    }))
+}
+
+/// What setting the size of a file or a symbolic link takes. The faults are `NoEntry`, `IsDir`, `TooLarge` above the greatest size, and `Full` where there
+/// is no room.
+pub fn plan_truncate<S: Store>(
+    store: &S,
+    tree: Tree,
+    memory: &Memory,
+    number: u32,
+    size: u64,
+) -> Result<TruncateStep, Fault>
+    ensures { IsTruncatePlanned (S.state_of store.now) tree memory.now number size result }
+{
+    let file = find_file(store, tree.fs, tree.top, number)?;
+    if size > GREATEST_SIZE {
+        return Err(Fault::TooLarge);
+    }
+    if !is_trimmed(store, tree.fs, &file) {
+        return Ok(TruncateStep::Trim);
+    }
+    plan_size(store, tree, memory, &file, size)
+}

@@ -1,0 +1,5 @@
+pub mod Kinds
+pub mod Memories
+pub mod Plans
+pub mod Rooms
+pub mod Written

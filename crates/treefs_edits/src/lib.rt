@@ -1,0 +1,24 @@
+//! What a call of a file system of trees asks of its store: acts, each an edit behind all of a block, blocks that it begins first, and one
+//! function that carries out a whole plan.
+//! May touch: memory.
+#![tactic(auto)]
+
+mod act;
+pub mod kinds;
+pub mod law;
+pub mod memory;
+mod plan;
+mod room;
+mod runs;
+mod start;
+mod times;
+mod tree;
+
+pub use act::Act;
+pub use memory::{Memory, Touched};
+pub use plan::{Planned, carry_out};
+pub use room::has_room;
+pub use runs::run;
+pub use start::{Start, begin_all, forget_all, lacks_memory};
+pub use times::Times;
+pub use tree::Tree;

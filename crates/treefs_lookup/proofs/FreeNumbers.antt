@@ -1,0 +1,118 @@
+-- Leaves of inode 0 that can be given, and those whose pointers stand beside theirs.
+use Rattle.std.proofs.Common.{◌≡◌, ℕ, ◌+◌, ◌-◌, ◌<◌, ◌≤◌, Bool, List, sym, ◌∙◌, ap, inl, inr, arith, subst, if◌then◌else◌, eq-eqb}
+use Rattle.std.proofs.Math.Seq.{drop-cons}
+use Rattle.std.proofs.lemmas.Bool.{cases_lt, le-ltb, lt-ltb}
+use Rattle.xn_model.specs.Lives.{StoreState}
+use Rattle.xn_model.specs.PendingIn.{pending_in_of}
+use Rattle.treefs_format.specs.Paths.{last_beside, leaf_count, steps}
+use Rattle.treefs_model.specs.Reading.{block_at, leaf_block, pointed}
+use Rattle.treefs_lookup.specs.Numbers.{ArePointed, CanGive, IsFirstEmpty, IsNextFree, IsNextNumber, NoneCanGive, SomeIsCrowded, holder_of, turn}
+use Rattle.treefs_lookup.specs.Readable.{readable}
+use Rattle.treefs_lookup.specs.Walks.{end_of, holder_steps, pointer_offset, reach}
+use Rattle.treefs_lookup.specs.declared.paths.Reach.{Reach}
+use Rattle.treefs_lookup.proofs.Trees.{beside, steps_some}
+use Rattle.treefs_lookup.proofs.Walks.{ends}
+
+-- the last pointer of a path is that of the leaf, in its holder
+last_pointer : (content : ℕ → List ℕ) (top leaf : ℕ) → leaf_block content top leaf ≡ pointed content (block_at content top (holder_steps leaf)) (pointer_offset leaf)
+last_pointer content top leaf = ap (block_at content top) (drop-cons (steps leaf) 0 0 (steps_some leaf))
+
+module _ (state : StoreState) (fs top i : ℕ) (lt : i < leaf_count) (r : Reach) (is : r ≡ holder_of state fs top i) (whole : r.missing ≡ 0) where
+  abbrev content : ℕ → List ℕ
+  content = readable state fs
+
+  holder_beside : (j : ℕ) → i ≤ j → j ≤ last_beside i → holder_of state fs top j ≡ r
+  holder_beside j ge le = ap (reach content top) (beside i j lt ge le).same ∙ sym is
+
+  leaf_beside : (j : ℕ) → i ≤ j → j ≤ last_beside i → leaf_block content top j ≡ pointed content r.block (pointer_offset j)
+  leaf_beside j ge le =
+      let end : end_of r ≡ r.block = ap (λ (t : Bool). if t then r.block else 0) (eq-eqb r.missing 0 whole) in
+      last_pointer content top j ∙ ap (λ b. pointed content b (pointer_offset j)) (ends content top (holder_steps j) ∙ (ap end_of (holder_beside j ge le) ∙ end))
+
+  there_beside : (j : ℕ) → i ≤ j → j ≤ last_beside i → (holder_of state fs top j).missing ≡ 0
+  there_beside j ge le = ap (λ (x : Reach). x.missing) (holder_beside j ge le) ∙ whole
+
+  pending_beside : (j : ℕ) → i ≤ j → j ≤ last_beside i → pending_in_of state (holder_of state fs top j).block ≡ pending_in_of state r.block
+  pending_beside j ge le = ap (λ (x : Reach). pending_in_of state x.block) (holder_beside j ge le)
+
+  -- one whose pointer is 0 can be given, where the block is calm
+  pub free_can : pending_in_of state r.block ≤ 60 → (j : ℕ) → IsFirstEmpty content r.block i j → CanGive state fs top j
+  free_can calm j first = let same = pending_beside j first.past first.beside in record {
+    free = leaf_beside j first.past first.beside ∙ first.empty;
+    calm = λ e. omega arith;
+  }
+
+  -- those with pointers can't be
+  pub pointed_none : (from to : ℕ) → to ≤ last_beside i + 1 → NoneCanGive state fs top from i → ArePointed content r.block i to → NoneCanGive state fs top from to
+  pointed_none from to few before pointed j ge less can = elim (cases_lt j i) [
+    | inl a ↦ before j ge a can
+    | inr a ↦ pointed j a less (sym (leaf_beside j a (omega arith)) ∙ can.free)
+  ]
+
+  -- nor those in a crowded block
+  pub crowded_none : 60 < pending_in_of state r.block → (from : ℕ) → NoneCanGive state fs top from i → NoneCanGive state fs top from (last_beside i + 1)
+  crowded_none many from before j ge less can = elim (cases_lt j i) [
+    | inl a ↦ before j ge a can
+    | inr a ↦
+        let same = pending_beside j a (omega arith) in
+        let calm = can.calm (there_beside j a (omega arith)) in
+        omega arith
+  ]
+
+  pub crowded_some : 60 < pending_in_of state r.block → (from : ℕ) → from ≤ i → SomeIsCrowded state fs top from leaf_count
+  crowded_some many from past =
+      let ge : i ≤ i = omega arith in
+      (i, (past, lt, record { there = ap (λ (x : Reach). x.missing) (sym is) ∙ whole; many = subst (λ (x : Reach). 60 < pending_in_of state x.block) is many }))
+
+  -- in a calm block none is crowded
+  pub calm_none : pending_in_of state r.block ≤ 60 → (from : ℕ) → (SomeIsCrowded state fs top from i → ⊥) → SomeIsCrowded state fs top from (last_beside i + 1) → ⊥
+  calm_none calm from before some =
+      let j = some.0 in
+      let less : j < last_beside i + 1 = some.1.1 in
+      elim (cases_lt j i) [
+        | inl a ↦ before (j, (some.1.0, a, some.1.2))
+        | inr a ↦ let same = pending_beside j a (omega arith) in let many = some.1.2.many in omega arith
+      ]
+
+-- Numbers in their order
+
+turn_low : (hint n : ℕ) → n < hint → turn hint n ≡ n + leaf_count
+turn_low hint n lt = ap (λ (t : Bool). if t then n + leaf_count else n) (lt-ltb n hint lt)
+
+turn_high : (hint n : ℕ) → hint ≤ n → turn hint n ≡ n
+turn_high hint n ge = ap (λ (t : Bool). if t then n + leaf_count else n) (le-ltb n hint ge)
+
+module _ (state : StoreState) (fs top hint leaf : ℕ) where
+  number_at : CanGive state fs top leaf → CanGive state fs top (leaf + 1 - 1)
+  number_at can = let e : leaf ≡ leaf + 1 - 1 = omega arith in subst (CanGive state fs top) e can
+
+  pub next_number : IsNextFree state fs top (hint - 1) leaf → IsNextNumber state fs top hint (leaf + 1)
+  next_number next =
+      let past : hint - 1 ≤ leaf = next.past in
+      let few : leaf < leaf_count = next.few in
+      let high = turn_high hint (leaf + 1) (omega arith) in
+      record {
+        some = omega arith;
+        few = omega arith;
+        can = number_at next.can;
+        first = λ m one most before can. elim (cases_lt m hint) [
+          | inl a ↦ let low = turn_low hint m a in absurd (omega arith)
+          | inr a ↦ let at = turn_high hint m a in next.first (m - 1) (omega arith) (omega arith) can
+        ];
+      }
+
+  pub first_number : NoneCanGive state fs top (hint - 1) leaf_count → IsNextFree state fs top 0 leaf → IsNextNumber state fs top hint (leaf + 1)
+  first_number none next =
+      let few : leaf < leaf_count = next.few in
+      record {
+        some = omega arith;
+        few = omega arith;
+        can = number_at next.can;
+        first = λ m one most before can. elim (cases_lt m hint) [
+          | inl a ↦ elim (cases_lt (leaf + 1) hint) [
+            | inl b ↦ let low = turn_low hint m a in let last = turn_low hint (leaf + 1) b in next.first (m - 1) (omega arith) (omega arith) can
+            | inr b ↦ none leaf (omega arith) few next.can
+          ]
+          | inr a ↦ none (m - 1) (omega arith) (omega arith) can
+        ];
+      }

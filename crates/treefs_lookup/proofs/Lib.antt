@@ -1,0 +1,13 @@
+pub mod Readable
+pub mod Walks
+pub mod Trees
+pub mod PassedLeaves
+pub mod FoundInodes
+pub mod Candidates
+pub mod FreePlaces
+pub mod FoundRecords
+pub mod FoundNames
+pub mod SoughtBuckets
+pub mod FreeNumbers
+pub mod ReadParts
+pub mod FirstBlocks

@@ -1,0 +1,36 @@
+use Rattle.std.proofs.Common.{arith, sym, ◌∙◌, subst}
+use Rattle.treefs_lookup.specs.Readable.{readable}
+use Rattle.treefs_lookup.specs.Trimmed.{NoneBegins}
+use Rattle.treefs_lookup.proofs.FirstBlocks.{leaf_begins, none_begins, node_begins}
+use Rattle.treefs_lookup.proofs.PassedLeaves.{goes_on}
+use Rattle.treefs_lookup.proofs.trimmed.stands_past.Goals.{then-reach-eq0-via-then-reach-eq0, then-reach-eq0-via-else-reach-eq0+then-is_first_node}
+use Rattle.treefs_lookup.proofs.trimmed.stands_past.Goals as goal
+
+pub returns-then-reach-eq0 : goal.returns-then-reach-eq0
+returns-then-reach-eq0 g c =
+    let content = readable (g.S.Store.state_of c.args.store.now) c.args.fs.number in
+    let number = c.loop-number.number in
+    let r = c.find_leaf-reach.result in
+    let lt = c.loop-number-test.true in
+    let is = c.find_leaf-reach.ensures in
+    let past = c.loop-number.invariant.past in
+    elim c.then-reach-eq0.branch [
+      | then-reach-eq0-via-then-reach-eq0 w ↦ (number, 0, past, lt, leaf_begins content c.args.inode number r lt is w.if-reach-eq0.true)
+      | then-reach-eq0-via-else-reach-eq0+then-is_first_node w ↦
+          (number, r.missing, past, lt, node_begins content c.args.inode number r lt is (sym w.is_first_node.ensures ∙ w.if-is_first_node.true))
+    ]
+
+pub loop-number-preserved : goal.loop-number-preserved
+loop-number-preserved g c =
+    let content = readable (g.S.Store.state_of c.args.store.now) c.args.fs.number in
+    let number = c.loop-number.number in
+    let r = c.find_leaf-reach.result in
+    let lt = c.loop-number-test.true in
+    let more = goes_on content c.args.inode number r lt c.find_leaf-reach.ensures c.if-reach-eq0.false in
+    let is = c.leaf_behind-number.ensures in
+    let past = c.loop-number.invariant.past in
+    record {
+      past = omega arith;
+      none = subst (NoneBegins content c.args.inode c.args.from) (sym is)
+          (none_begins content c.args.inode number r lt c.find_leaf-reach.ensures c.if-reach-eq0.false (sym c.is_first_node.ensures ∙ c.if-is_first_node.false) c.args.from c.loop-number.invariant.none);
+    }

@@ -1,0 +1,10 @@
+pub mod Readable
+pub mod Walks
+pub mod Leaves
+pub mod Inodes
+pub mod Buckets
+pub mod Names
+pub mod Sought
+pub mod Numbers
+pub mod Bytes
+pub mod Trimmed

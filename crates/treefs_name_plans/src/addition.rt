@@ -1,0 +1,43 @@
+// Where a record goes that is made in a directory.
+
+ghost use Rattle.std.specs.Prelude.{◌<◌, ◌≤◌};
+ghost use Rattle.treefs_format.specs.Paths.{leaf_count};
+
+/// A bucket that is made, with the nodes that its path lacks.
+#[derive(Clone, Copy, Debug)]
+pub struct NewBucket {
+    /// The last block that stands on its path.
+    pub owner: u32,
+    /// The leaf that it is.
+    pub leaf: u32,
+    /// How many blocks of its path are missing, itself included.
+    pub missing: usize,
+    /// The type of nodes.
+    pub node_type: u8,
+    ghost there: { leaf < leaf_count },
+}
+
+/// A bucket that is rewritten without its dead records, before a record is made behind the live ones.
+#[derive(Clone, Copy, Debug)]
+pub struct OldBucket {
+    /// Its block.
+    pub block: u32,
+    /// The byte of the block at which it begins.
+    pub start: usize,
+    /// The bytes of the block.
+    pub bytes: [u8; 512],
+    /// The byte of the block at which the new record begins.
+    pub offset: u16,
+    ghost within: { start ≤ 512 },
+}
+
+/// Where a new record goes.
+#[derive(Clone, Copy, Debug)]
+pub enum Addition {
+    /// To this byte of a block: behind the records of a bucket, or into a dead record of its name.
+    Behind(u32, u16),
+    /// Behind the live records of a bucket, once that is rewritten.
+    Rewritten(OldBucket),
+    /// To the beginning of a bucket that is made.
+    Made(NewBucket),
+}

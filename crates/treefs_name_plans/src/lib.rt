@@ -1,0 +1,18 @@
+//! Plans of the calls on names of a file system of trees: what a call reads decides its fault, or the blocks that it begins and its edits.
+//! May touch: memory.
+#![tactic(auto)]
+
+mod addition;
+mod end;
+mod ended;
+mod link_change;
+mod making;
+mod missing;
+pub mod slots;
+mod unlink;
+
+pub use addition::{Addition, NewBucket, OldBucket};
+pub use end::EndPlan;
+pub use ended::Ended;
+pub use link_change::LinkChange;
+pub use unlink::plan_unlink;

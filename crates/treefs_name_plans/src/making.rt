@@ -1,0 +1,82 @@
+// A record is made in a directory.
+
+ghost use Rattle.std.specs.Prelude.{◌≡◌, ◌++◌, ◌≤◌, length, IfOk};
+ghost use Rattle.treefs_name_plans.specs.Additions.{addition_acts, addition_starts, last_block, rewriting};
+
+use crate::addition::Addition;
+use crate::missing::{missing_path, push_path_acts, push_path_starts};
+use std::alloc::{AllocError, Global};
+use treefs_edits::{Act, Start, kinds};
+
+/// The last of the blocks that were begun; 0 where none was.
+fn last_block(begun: &[u32]) -> u32
+    ensures { result ≡ last_block begun.now }
+{
+    match begun {
+        [.., last] => *last,
+        [] => 0,
+    }
+}
+
+impl Addition {
+    /// Adds the blocks that are begun for it.
+    pub(crate) fn push_starts(&self, starts: &mut Vec<Start>) -> Result<(), AllocError>
+        ensures { IfOk result (λ _. starts.new.items ≡ starts.old.items ++ addition_starts self.now) }
+    {
+        match self {
+            Addition::Behind(..) | Addition::Rewritten(..) => Ok(()),
+            Addition::Made(made) => {
+                let offsets = missing_path(made.leaf, made.missing);
+                push_path_starts(starts, made.node_type, offsets.as_slice())
+            }
+        }
+    }
+
+    /// Adds the act by which a bucket is first rewritten.
+    pub(crate) fn push_rewriting(
+        &self,
+        alloc: Global,
+        acts: &mut Vec<Act>,
+    ) -> Result<(), AllocError>
+        ensures { IfOk result (λ _. acts.new.items ≡ acts.old.items ++ rewriting self.now) }
+    {
+        if let Addition::Rewritten(old) = self {
+            let bucket = &old.bytes[old.start..];
+            acts.push(kinds::rewrite(alloc, old.block, old.start, bucket)?)?;
+        }
+        Ok(())
+    }
+
+    /// Adds the acts that make the record, behind all of a block.
+    pub(crate) fn push_acts(
+        &self,
+        alloc: Global,
+        acts: &mut Vec<Act>,
+        begun: &[u32],
+        number: u32,
+        name: &[u8],
+        behind: u32,
+    ) -> Result<(), AllocError>
+        requires { length name.now ≤ 255 }
+        ensures { IfOk result (λ _. acts.new.items ≡ acts.old.items ++ addition_acts self.now begun.now (record { number = number; name = name.now }) behind) }
+    {
+        let (block, offset) = match self {
+            Addition::Behind(block, offset) => (*block, *offset),
+            Addition::Rewritten(old) => (old.block, old.offset),
+            Addition::Made(made) => {
+                let offsets = missing_path(made.leaf, made.missing);
+                push_path_acts(
+                    alloc,
+                    acts,
+                    made.node_type,
+                    made.owner,
+                    offsets.as_slice(),
+                    begun,
+                )?;
+                (last_block(begun), 0)
+            }
+        };
+        acts.push(kinds::make_record(alloc, block, offset, number, name, Some(behind))?)?;
+        Ok(())
+    }
+}

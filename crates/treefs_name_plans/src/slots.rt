@@ -1,0 +1,41 @@
+// Where records stand in blocks.
+
+ghost use Rattle.std.specs.Prelude.{◌≡◌, ◌≤◌, ◌+◌, ℕ, List, Ok, length};
+ghost use Rattle.treefs_lookup.specs.Readable.{readable};
+ghost use Rattle.treefs_name_plans.specs.Ends.{file_ended};
+ghost use Rattle.treefs_name_plans.specs.declared.ended.Ended.{Ended};
+
+use edit_list::Fs;
+use treefs_lookup::{Slot, read_block};
+use xn_state::Store;
+
+/// The record of a name that is found begins within its block.
+pub fn slots_are_within()
+    ensures { (content : ℕ → List ℕ) (top d : ℕ) (name : List ℕ) (ended : Ended) → file_ended content top d name ≡ Ok ended →
+        ended.slot.offset ≤ 128 + length (content ended.slot.block) }
+{}
+
+/// A block that may be read has 512 bytes, and none of another is read.
+fn is_short<S: Store>(store: &S, fs: Fs, block: u32)
+    ensures { length (readable (S.state_of store.now) fs.number block) ≤ 512 }
+{
+    if let Some(bytes) = read_block(store, fs, block) {
+        is_block(bytes);
+    }
+}
+
+/// A block has 512 bytes.
+fn is_block(bytes: &[u8; 512])
+    ensures { length bytes.now ≡ 512 }
+{
+    let _ = bytes;
+}
+
+/// The byte of its block at which a record begins.
+pub fn narrow_offset<S: Store>(store: &S, fs: Fs, slot: Slot) -> u16
+    requires { slot.offset ≤ 128 + length (readable (S.state_of store.now) fs.number slot.block) }
+    ensures { result ≡ slot.offset }
+{
+    is_short(store, fs, slot.block);
+    slot.offset as u16
+}
