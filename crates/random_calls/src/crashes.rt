@@ -1,10 +1,9 @@
 // Crashes, and the mounts after them.
 
-use crate::disks::mounted;
 use crate::record::BLOCKS;
 use crate::run::Run;
 use crate::tally::Met;
-use crash_check::ImageFault;
+use crash_check::{ImageFault, mount};
 use disk::{Lanes, MemLane};
 use std::alloc::{AllocError, Global};
 use std::thread::Threads;
@@ -93,25 +92,35 @@ impl Run {
     ) -> Option<Kernel<MemLane>> {
         self.tally.add(Met::Crashes, 1);
         let id = u64::from(self.tally.of(Met::Crashes)).saturating_add(1);
-        let fails = self.numbers.below(4) == 0;
-        if fails {
+        if self.numbers.below(4) == 0 {
             let is_there = self.fail_lane(&mut lanes);
             self.tally.check(is_there);
-        }
-        match mounted(rt, alloc, lanes, id) {
-            Err((fault, back)) if fails => {
-                self.tally.check(fault == ImageFault::Device);
-                self.tally.add(Met::Unmounted, 1);
-                mounted(rt, alloc, back, id).ok()
+            match mount(rt, alloc, lanes, id) {
+                Ok(_) => return None,
+                Err((fault, back)) => {
+                    self.tally.check(fault == ImageFault::Device);
+                    self.tally.add(Met::Unmounted, 1);
+                    lanes = back;
+                }
             }
-            Ok(kernel) if !fails => Some(kernel),
-            _ => None,
+        }
+        match mount(rt, alloc, lanes, id) {
+            Ok(kernel) => Some(kernel),
+            Err(_) => None,
         }
     }
 
-    /// What a file system is told of a block after a mount: its type and its bytes.
-    fn told(&mut self, kernel: &Kernel<MemLane>, block: u32, fs: u8, wanted: Result<u32, Refusal>) {
-        let Some(fs) = Fs::new(fs) else {
+    /// Compares a block after a mount: a reached one is its file system's, with the type and the bytes that the rules say, or nobody's.
+    fn look_at_mounted(&mut self, kernel: &Kernel<MemLane>, block: u32) {
+        self.look_at(kernel, block);
+        let (number, wanted) = match self.record.life(block) {
+            Some(life) => match life.fs {
+                Some(number) => (number, Ok(life.ty)),
+                None => (0, Err(Refusal::NotYours)),
+            },
+            None => (0, Err(Refusal::NotInUse)),
+        };
+        let Some(fs) = Fs::new(number) else {
             return self.tally.check(false);
         };
         self.tally.check(kernel.kind(fs, block) == wanted);
@@ -119,21 +128,10 @@ impl Run {
             Ok(bytes) => self.tally.check(*bytes == self.record.held(block).newest),
             Err(refusal) => self.tally.check(wanted == Err(refusal)),
         }
-    }
-
-    /// Compares a block after a mount: a reached one is its file system's, with the type and the bytes that the rules say, or nobody's.
-    fn look_at_mounted(&mut self, kernel: &Kernel<MemLane>, block: u32) {
-        self.look_at(kernel, block);
-        let (fs, wanted, met) = match self.record.life(block) {
-            Some(life) => match life.fs {
-                Some(fs) => (fs, Ok(life.ty), Some(Met::Reached)),
-                None => (0, Err(Refusal::NotYours), None),
-            },
-            None => (0, Err(Refusal::NotInUse), Some(Met::Left)),
-        };
-        self.told(kernel, block, fs, wanted);
-        if let Some(met) = met {
-            self.tally.add(met, 1);
+        if wanted != Err(Refusal::NotYours) {
+            let is_reached = wanted.is_ok();
+            self.tally
+                .add(if is_reached { Met::Reached } else { Met::Left }, 1);
         }
     }
 

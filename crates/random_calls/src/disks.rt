@@ -1,7 +1,7 @@
 // Kernels over fresh disks in memory.
 
-use crash_check::{ImageFault, mount};
-use disk::{Lanes, MemLane, fresh_lanes};
+use crash_check::mount;
+use disk::{MemDisk, MemLane};
 use ffs_format::templates;
 use std::alloc::{AllocError, Global};
 use std::thread::Threads;
@@ -31,52 +31,37 @@ static TREE: [u8; 48] = [
 /// Where the type to which such a block points stands in it.
 const POINTED: usize = 18;
 
-/// The templates of the library file system, and those of the types 6 and 7.
-fn all_templates(alloc: Global) -> Result<Vec<Template>, AllocError> {
-    let mut templates = templates(alloc)?;
-    for ty in [6, 8] {
-        let mut block = [0u8; 512];
-        block[..TREE.len()].copy_from_slice(&TREE);
-        block[POINTED] = ty;
-        let Ok(template) = read_block(alloc, &block) else {
-            return Err(AllocError);
-        };
-        templates.push(template)?;
-    }
-    Ok(templates)
-}
-
-/// The image of a fresh disk of so many blocks, with these templates.
-fn fresh_image(alloc: Global, blocks: u32) -> Result<Vec<u8>, AllocError> {
-    match format_image(alloc, blocks, &all_templates(alloc)?) {
-        Ok(image) => Ok(image),
+/// The template of type 6 or 7, whose blocks point to blocks of this type.
+fn tree_template(alloc: Global, ty: u8) -> Result<Template, AllocError> {
+    let mut block = [0u8; 512];
+    block[..TREE.len()].copy_from_slice(&TREE);
+    block[POINTED] = ty;
+    match read_block(alloc, &block) {
+        Ok(template) => Ok(template),
         Err(_) => Err(AllocError),
     }
 }
 
-/// What a mount gives, or the fault and the lanes.
-pub fn mounted(
-    rt: &(impl Threads + Sync),
-    alloc: Global,
-    lanes: Lanes<MemLane>,
-    id: u64,
-) -> Result<Kernel<MemLane>, (ImageFault, Lanes<MemLane>)> {
-    mount(rt, alloc, lanes, id)
-}
-
-/// A kernel over a fresh disk of so many blocks. `None`: there was no memory.
+/// A kernel over a fresh disk of so many blocks, with the templates of the library file system and those of the types 6 and 7.
 pub fn fresh_kernel(
     rt: &(impl Threads + Sync),
     alloc: Global,
     blocks: u32,
-) -> Option<Kernel<MemLane>> {
-    if let Ok(image) = fresh_image(alloc, blocks)
-        && image.len() % 512 == 0
-        && image.len() <= GREATEST
-        && let Ok(lanes) = fresh_lanes(alloc, &image)
-        && let Ok(kernel) = mounted(rt, alloc, lanes, 1)
-    {
-        return Some(kernel);
+) -> Result<Kernel<MemLane>, AllocError> {
+    let mut templates = templates(alloc)?;
+    templates.push(tree_template(alloc, 6)?)?;
+    templates.push(tree_template(alloc, 8)?)?;
+    let Ok(image) = format_image(alloc, blocks, &templates) else {
+        return Err(AllocError);
+    };
+    if image.len() % 512 != 0 || image.len() > GREATEST {
+        return Err(AllocError);
     }
-    None
+    let Ok(lanes) = MemDisk::new(alloc, &image)?.split(alloc) else {
+        return Err(AllocError);
+    };
+    match mount(rt, alloc, lanes, 1) {
+        Ok(kernel) => Ok(kernel),
+        Err(_) => Err(AllocError),
+    }
 }

@@ -47,43 +47,25 @@ pub fn words_of(record: &Record, ty: u32, pointer: Option<(u16, u32)>) -> [(u16,
     }
 }
 
-/// The patches that write two words, or one where they are the same.
-fn patches_of(alloc: Global, words: [(u16, u32); 2]) -> Result<Vec<Patch>, AllocError> {
+/// The edit that is asked for.
+pub fn edit_of(alloc: Global, asked: &Asked) -> Result<Edit, AllocError> {
     let mut patches = Vec::new(alloc);
-    let [first, last] = words;
+    let [first, last] = asked.entry.words;
     if first != last {
         patches.push(word_patch(alloc, first.0, first.1)?)?;
     }
     patches.push(word_patch(alloc, last.0, last.1)?)?;
-    Ok(patches)
-}
-
-/// A list of what there is.
-fn list_of<T: Drop>(alloc: Global, item: Option<T>) -> Result<Vec<T>, AllocError> {
-    let mut list = Vec::new(alloc);
-    if let Some(item) = item {
-        list.push(item)?;
+    let mut adds = Vec::new(alloc);
+    if let Some(block) = asked.entry.adds {
+        adds.push((block, asked.added_type))?;
     }
-    Ok(list)
-}
-
-/// The edit that is asked for.
-pub fn edit_of(alloc: Global, asked: &Asked) -> Result<Edit, AllocError> {
-    let entry = asked.entry;
-    let added = match entry.adds {
-        Some(block) => Some((block, asked.added_type)),
-        None => None,
-    };
-    let after = match entry.after {
+    let mut drops = Vec::new(alloc);
+    if let Some(block) = asked.entry.drops {
+        drops.push(block)?;
+    }
+    let after = match asked.entry.after {
         Some(number) => Some(EditId(number)),
         None => None,
-    };
-    let (Ok(patches), Ok(adds), Ok(drops)) = (
-        patches_of(alloc, entry.words),
-        list_of(alloc, added),
-        list_of(alloc, entry.drops),
-    ) else {
-        return Err(AllocError);
     };
     Ok(Edit {
         patches,

@@ -49,7 +49,7 @@ fn fresh_disk(
     alloc: Global,
     run: &mut Run,
 ) -> Result<Kernel<MemLane>, AllocError> {
-    let kernel = fresh_kernel(rt, alloc, BLOCKS).ok_or(AllocError)?;
+    let kernel = fresh_kernel(rt, alloc, BLOCKS)?;
     run.start(alloc, &kernel)?;
     Ok(kernel)
 }
@@ -87,9 +87,8 @@ fn make_calls(rt: &(impl Threads + Sync), alloc: Global, run: &mut Run) -> Resul
 
 /// Prints the counts of calls.
 fn print_calls(rt: &impl Print, tally: &Tally) -> io::Result<()> {
-    for at in 0..9 {
-        let (kind, made, accepted) = (KINDS[at], tally.made[at], tally.accepted[at]);
-        let refused = made.saturating_sub(accepted);
+    for ((kind, made), accepted) in KINDS.iter().zip(&tally.made).zip(&tally.accepted) {
+        let refused = made.saturating_sub(*accepted);
         println!(rt; "{kind} {made} accepted {accepted} refused {refused}")?;
     }
     Ok(())

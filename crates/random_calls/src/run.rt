@@ -41,19 +41,6 @@ fn code(block: Option<u32>) -> u64 {
     }
 }
 
-/// What a kernel tells: the block that it would pick, the floor of a file system, how many entries that has pending, how many blocks are free,
-/// whether this block is tainted, and the root.
-fn told(kernel: &Kernel<MemLane>, fs: Fs, block: u32) -> [u64; 6] {
-    [
-        code(kernel.pick()),
-        kernel.floor(fs),
-        u64::from(kernel.pending(fs)),
-        u64::from(kernel.free()),
-        u64::from(kernel.tainted(block)),
-        code(kernel.root(fs)),
-    ]
-}
-
 impl Run {
     /// Before the first call.
     pub fn new(alloc: Global) -> Result<Run, AllocError> {
@@ -289,42 +276,32 @@ impl Run {
         Ok(())
     }
 
-    /// What the record says of these.
-    fn said(&self, fs: u8, block: u32) -> [u64; 6] {
-        [
-            code(self.record.pick()),
-            self.record.floor(fs),
-            u64::from(self.record.pending(fs)),
-            u64::from(self.record.free_count()),
-            u64::from(self.record.tainted(block)),
-            code(self.record.root(fs)),
-        ]
-    }
-
-    /// Counts what a block has met.
-    fn meet(&mut self, block: u32) {
-        if self.record.tainted(block) {
-            self.tally.add(Met::Tainted, 1);
-        }
-        if self.record.awaits_type(block) {
-            self.tally.add(Met::Awaiting, 1);
-        }
-        let (_, owners) = self.record.chain_end(block);
-        self.tally.raise(Met::MostOwners, owners);
-        let pending = u32::try_from(self.record.entries.len()).unwrap_or(u32::MAX);
-        self.tally.raise(Met::MostPending, pending);
-    }
-
     /// Asks what changes nothing.
     fn ask(&mut self, kernel: &Kernel<MemLane>, fs: Fs, block: u32) {
-        let (told, said) = (told(kernel, fs, block), self.said(fs.number(), block));
-        for at in 0..6 {
-            self.tally.ask(told[at], said[at]);
+        let system = fs.number();
+        let (record, tally) = (&self.record, &mut self.tally);
+        tally.ask(code(kernel.pick()), code(record.pick()));
+        tally.ask(kernel.floor(fs), record.floor(system));
+        tally.ask(
+            u64::from(kernel.pending(fs)),
+            u64::from(record.pending(system)),
+        );
+        tally.ask(u64::from(kernel.free()), u64::from(record.free_count()));
+        let is_tainted = record.tainted(block);
+        tally.ask(u64::from(kernel.tainted(block)), u64::from(is_tainted));
+        if is_tainted {
+            tally.add(Met::Tainted, 1);
         }
-        self.meet(block);
+        if record.awaits_type(block) {
+            tally.add(Met::Awaiting, 1);
+        }
+        let (_, owners) = record.chain_end(block);
+        tally.raise(Met::MostOwners, owners);
+        let pending = u32::try_from(record.entries.len()).unwrap_or(u32::MAX);
+        tally.raise(Met::MostPending, pending);
+        tally.ask(code(kernel.root(fs)), code(record.root(system)));
         if let Ok(bytes) = kernel.read(fs, block) {
-            self.tally
-                .check(*bytes == self.record.bytes_after(block, u32::MAX));
+            tally.check(*bytes == record.bytes_after(block, u32::MAX));
         }
         self.look_at(kernel, block);
     }
