@@ -5,14 +5,21 @@
 mod addition;
 mod end;
 mod ended;
+mod link;
 mod link_change;
+mod link_plan;
+mod linking;
 mod making;
 mod missing;
+pub mod new_names;
 pub mod slots;
 mod unlink;
 
 pub use addition::{Addition, NewBucket, OldBucket};
 pub use end::EndPlan;
 pub use ended::Ended;
+pub use link::plan_link;
 pub use link_change::LinkChange;
+pub use link_plan::LinkPlan;
+pub use linking::Linking;
 pub use unlink::plan_unlink;
