@@ -3,3 +3,4 @@ pub mod Ends
 pub mod LinkPlans
 pub mod Links
 pub mod NewNames
+pub mod NewPlans
