@@ -4,15 +4,25 @@ ghost use Rattle.std.specs.Prelude.{◌≡◌, ◌<◌, ◌≤◌, vec_capacity,
 ghost use Rattle.treefs_edits.specs.Memories.{with_touched, without_touched};
 ghost use Rattle.treefs_lookup.specs.Readable.{readable};
 ghost use Rattle.treefs.specs.Linking.{record_block, record_entry};
-ghost use Rattle.treefs.specs.Remembered.{ended_orphans, ended_touched, written_times};
+ghost use Rattle.treefs.specs.Remembered.{ended_orphans, ended_touched, now_times, written_times};
 
 use edit_list::Fs;
 use treefs_edits::memory::{forget_touch, touch};
-use treefs_edits::{Times, Touched};
+use treefs_edits::{Memory, Times, Touched};
 use treefs_format::paths::LEAVES;
 use treefs_lookup::leaf_block;
 use treefs_name_plans::{Addition, EndPlan};
 use xn_state::Store;
+
+/// The times of an inode that changes now.
+pub fn now_times(memory: &Memory) -> Times
+    ensures { result ≡ now_times memory.now }
+{
+    Times {
+        mtime: memory.clock,
+        ctime: memory.clock,
+    }
+}
 
 /// Leaves out the times of an inode that an edit has written, if it did.
 fn forget_written(touched: &mut Vec<Touched>, number: u32, times: Option<Times>)

@@ -4,10 +4,10 @@ ghost use Rattle.std.specs.Prelude.{◌≡◌};
 ghost use Rattle.treefs.specs.Linking.{LinkDoes};
 ghost use Rattle.treefs.specs.Unlinking.{UnlinkDoes};
 
-use crate::memory::{note_orphan, record_entry, touch_end, touch_link};
+use crate::memory::{note_orphan, now_times, record_entry, touch_end, touch_link};
 use crate::volume::Volume;
 use std::alloc::Global;
-use treefs_edits::{Times, carry_out, lacks_memory};
+use treefs_edits::{carry_out, lacks_memory};
 use treefs_model::Fault;
 use treefs_name_plans::{Linking, plan_link, plan_unlink};
 use xn_state::Store;
@@ -38,10 +38,7 @@ impl Volume {
             .reserve(1)
             .map_err(|error| lacks_memory(error))?;
         carry_out(alloc, store, tree.fs, &plan)?;
-        let now = Times {
-            mtime: memory.clock,
-            ctime: memory.clock,
-        };
+        let now = now_times(memory);
         touch_end(&mut memory.touched, now, directory, &plan);
         note_orphan(&mut memory.orphans, &plan);
         Ok(())
@@ -70,18 +67,16 @@ impl Volume {
             .reserve(1)
             .map_err(|error| lacks_memory(error))?;
         carry_out(alloc, store, tree.fs, &Linking { plan, name })?;
-        let now = Times {
-            mtime: memory.clock,
-            ctime: memory.clock,
-        };
-        touch_link(&mut memory.touched, now, directory, number);
-        memory.last_link = record_entry(
+        let now = now_times(memory);
+        let last_link = record_entry(
             store,
             tree.fs,
             plan.directory,
             &plan.addition,
             memory.last_link,
         );
+        touch_link(&mut memory.touched, now, directory, plan.number);
+        memory.last_link = last_link;
         Ok(())
     }
 }
