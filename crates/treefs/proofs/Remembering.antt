@@ -1,5 +1,5 @@
 -- The volume once a call on names is done.
-use Rattle.std.proofs.Common.{◌≡◌, ℕ, ◌∙◌, List, Ok, ap, sym, subst}
+use Rattle.std.proofs.Common.{◌≡◌, ℕ, ◌∙◌, List, ap}
 use Rattle.xn_model.specs.Lives.{StoreState}
 use Rattle.treefs_edits.specs.Memories.{Memory, with_touched, without_touched}
 use Rattle.treefs_edits.specs.declared.memory.Touched.{Touched}

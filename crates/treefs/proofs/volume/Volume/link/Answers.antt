@@ -8,7 +8,6 @@ use Rattle.treefs_name_plans.specs.declared.link_plan.LinkPlan.{LinkPlan}
 use Rattle.treefs.specs.Linking.{linked_volume}
 use Rattle.treefs.specs.Remembered.{now_times}
 use Rattle.treefs.specs.Unlinking.{as_plan}
-use Rattle.treefs.specs.declared.volume.Volume.{Volume}
 use Rattle.treefs.proofs.Remembering.{linked, linked_with}
 use Rattle.treefs.proofs.volume.Volume.link.Goals as goal
 
