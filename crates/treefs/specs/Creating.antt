@@ -1,8 +1,8 @@
 -- What the calls do that make an inode.
 --     new_fields            what a new inode says before its pointers
 --     NewDoes               a new inode gets its first name
---     CreateDoes, MkdirDoes     what create and mkdir do
-use Rattle.std.specs.Prelude.{◌≡◌, ⊤, ℕ, ◌+◌, ◌-◌, ◌^◌, min, List, [], Result, Ok, Err, MatchResult}
+--     CreateDoes, SymlinkDoes, MkdirDoes     what create, symlink and mkdir do
+use Rattle.std.specs.Prelude.{◌≡◌, ⊤, ℕ, ◌+◌, ◌-◌, ◌^◌, length, min, List, [], Result, Ok, Err, MatchResult}
 use Rattle.xn_model.specs.Types.{Types}
 use Rattle.xn_model.specs.Lives.{StoreState}
 use Rattle.treefs_format.specs.Inodes.{inode_bytes, mode_of}
@@ -23,16 +23,16 @@ use Rattle.treefs.specs.declared.volume.Volume.{Volume}
 
 -- The inode
 
--- with one link, and no byte; parent: of a directory the one that it stands in, else 0
-abbrev pub new_fields : Tree → Memory → Kind → Attributes → ℕ → Fields
-new_fields tree memory kind attributes parent = record {
+-- with one link; parent: of a directory the one that it stands in, else 0
+abbrev pub new_fields : Tree → Memory → Kind → Attributes → ℕ → ℕ → Fields
+new_fields tree memory kind attributes parent size = record {
   leaf_type = 2;
   node_type = tree.node_type;
   mode = mode_of kind attributes.permissions;
   links = 1;
   uid = attributes.uid;
   gid = attributes.gid;
-  size = 0;
+  size = size;
   mtime = memory.clock;
   ctime = memory.clock;
   parent = parent;
@@ -72,7 +72,13 @@ number_of (Err fault) = Err fault
 
 abbrev pub CreateDoes : Types → StoreState → StoreState → Volume → Volume → ℕ → List ℕ → Attributes → Result ℕ Fault → Type 0
 CreateDoes T state state' volume volume' directory name attributes result =
-    let inode = inode_bytes (new_fields volume.tree volume.memory kind.File attributes 0) [] in
+    let inode = inode_bytes (new_fields volume.tree volume.memory kind.File attributes 0 0) [] in
+    (made : Result NewPlan Fault) × NewDoes T state state' volume volume' directory name inode made × (result ≡ number_of made)
+
+-- the target stands in the inode block
+abbrev pub SymlinkDoes : Types → StoreState → StoreState → Volume → Volume → ℕ → List ℕ → Attributes → List ℕ → Result ℕ Fault → Type 0
+SymlinkDoes T state state' volume volume' directory name attributes target result =
+    let inode = inode_bytes (new_fields volume.tree volume.memory kind.SymbolicLink attributes 0 (length target)) target in
     (made : Result NewPlan Fault) × NewDoes T state state' volume volume' directory name inode made × (result ≡ number_of made)
 
 -- the record is the last directory's
@@ -83,6 +89,6 @@ moved_volume state volume (Err fault) = volume
 
 abbrev pub MkdirDoes : Types → StoreState → StoreState → Volume → Volume → ℕ → List ℕ → Attributes → Result ℕ Fault → Type 0
 MkdirDoes T state state' volume volume' directory name attributes result =
-    let inode = inode_bytes (new_fields volume.tree volume.memory kind.Directory attributes directory) [] in
+    let inode = inode_bytes (new_fields volume.tree volume.memory kind.Directory attributes directory 0) [] in
     (made : Result NewPlan Fault) × (middle : Volume) × NewDoes T state state' volume middle directory name inode made
     × (volume' ≡ moved_volume state' middle made) × (result ≡ number_of made)

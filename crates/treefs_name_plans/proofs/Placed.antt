@@ -1,5 +1,5 @@
 -- The place of a new name begins within its block, or is a leaf that is to be made.
-use Rattle.std.proofs.Common.{◌≡◌, ◌==◌, ℕ, ◌+◌, ◌-◌, ◌<◌, ◌≤◌, List, [], ◌∷◌, drop, length, Bool, true, false, Option, None, Some, Result, Ok, Err, refl, sym, subst, arith, if◌then◌else◌}
+use Rattle.std.proofs.Common.{◌≡◌, ◌==◌, ℕ, ◌+◌, ◌-◌, ◌≤◌, List, [], ◌∷◌, drop, length, Bool, true, false, Option, None, Some, Ok, refl, sym, subst, arith, if◌then◌else◌}
 use Rattle.std.specs.Prelude.{◌&&◌, is_none, not, option_map}
 use Rattle.std.specs.Option.{ok_or, option_or}
 use Rattle.xn_model.specs.Lives.{StoreState}
@@ -14,7 +14,7 @@ use Rattle.treefs_format.specs.Records.{Record, end_of, is_live}
 use Rattle.treefs_model.specs.declared.fault.Fault.{Fault}
 use Rattle.treefs_model.specs.Reading.{bucket_of, leaf_block}
 use Rattle.treefs_lookup.specs.Buckets.{bucket_block, bucket_start}
-use Rattle.treefs_lookup.specs.Names.{dead_in, dead_of, dead_place, first_some, fits_behind, fits_without, free_place, no_place, place_of, place_or, room_at, room_in, room_or_new}
+use Rattle.treefs_lookup.specs.Names.{dead_in, dead_of, dead_place, first_some, fits_behind, fits_without, free_place, no_place, place_of, place_or, room_at, room_in}
 use Rattle.treefs_lookup.specs.Readable.{readable}
 use Rattle.treefs_lookup.specs.declared.places.NamePlace.{NamePlace}
 use Rattle.treefs_lookup.specs.declared.places.NamePlace.TheVariants.{Behind, DeadRecord, NewBucket, Rewritten}

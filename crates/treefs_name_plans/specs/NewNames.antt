@@ -15,7 +15,6 @@ use Rattle.treefs_lookup.specs.Inodes.{directory_found}
 use Rattle.treefs_lookup.specs.Names.{entry_found, place_of}
 use Rattle.treefs_lookup.specs.Readable.{readable}
 use Rattle.treefs_lookup.specs.Walks.{reach}
-use Rattle.treefs_lookup.specs.declared.inodes.Found.{Found}
 use Rattle.treefs_lookup.specs.declared.names.Slot.{Slot}
 use Rattle.treefs_lookup.specs.declared.paths.Reach.{Reach}
 use Rattle.treefs_lookup.specs.declared.places.NamePlace.{NamePlace}

@@ -2,7 +2,7 @@
 --     IsNumberFound     the number that it gets; `Full`, `NoInode`
 --     NewPlan, new_plan     what it takes
 --     IsNewPlanned      what a call that makes an inode answers, or takes
-use Rattle.std.specs.Prelude.{◌≡◌, ℕ, ◌+◌, ◌-◌, List, [], ◌∷◌, ◌++◌, drop, length, slice_index, take, ◌&&◌, None, Some, Result, Ok, Err, MatchResult, if◌then◌else◌}
+use Rattle.std.specs.Prelude.{◌≡◌, ℕ, ◌-◌, List, [], ◌∷◌, ◌++◌, drop, length, slice_index, take, ◌&&◌, None, Some, Result, Ok, Err, MatchResult, if◌then◌else◌}
 use Rattle.std.specs.List.{list_all}
 use Rattle.xn_model.specs.Lives.{StoreState}
 use Rattle.treefs_format.specs.Nodes.{node_bytes}

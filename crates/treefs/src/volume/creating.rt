@@ -1,8 +1,8 @@
 // The calls that make an inode.
 
-ghost use Rattle.std.specs.Prelude.{◌≡◌, ◌<◌, [], Ok};
+ghost use Rattle.std.specs.Prelude.{◌≡◌, ◌<◌, ◌≤◌, Ok, length};
 ghost use Rattle.treefs_format.specs.Inodes.{inode_bytes};
-ghost use Rattle.treefs.specs.Creating.{CreateDoes, MkdirDoes, NewDoes, moved_volume, new_fields};
+ghost use Rattle.treefs.specs.Creating.{CreateDoes, MkdirDoes, NewDoes, SymlinkDoes, moved_volume, new_fields};
 
 use crate::attributes::Attributes;
 use crate::memory::{now_times, record_entry};
@@ -26,9 +26,10 @@ fn new_fields(
     kind: Kind,
     attributes: Attributes,
     parent: u32,
+    size: u64,
 ) -> Fields
     requires { attributes.permissions < 4096 }
-    ensures { result ≡ new_fields tree memory.now kind attributes parent }
+    ensures { result ≡ new_fields tree memory.now kind attributes parent size }
 {
     Fields {
         leaf_type: LEAF,
@@ -37,7 +38,7 @@ fn new_fields(
         links: 1,
         uid: attributes.uid,
         gid: attributes.gid,
-        size: 0,
+        size,
         mtime: memory.clock,
         ctime: memory.clock,
         parent,
@@ -45,18 +46,22 @@ fn new_fields(
     }
 }
 
-/// The block of a new inode without a byte.
+/// The block of a new inode whose content is these bytes.
 fn new_block(
     tree: Tree,
     memory: &Memory,
     kind: Kind,
     attributes: Attributes,
     parent: u32,
+    content: &[u8],
 ) -> [u8; 512]
-    requires { attributes.permissions < 4096 }
-    ensures { result ≡ inode_bytes (new_fields tree memory.now kind attributes parent) [] }
+    requires permissions { attributes.permissions < 4096 }
+    requires short { length content.now ≤ 384 }
+    ensures { result ≡ inode_bytes (new_fields tree memory.now kind attributes parent (length content.now)) content.now }
 {
-    new_inode(&new_fields(tree, memory, kind, attributes, parent), &[])
+    let size = content.len() as u64;
+    let fields = new_fields(tree, memory, kind, attributes, parent, size);
+    new_inode(&fields, content)
 }
 
 impl Volume {
@@ -103,7 +108,37 @@ impl Volume {
         ensures types { S.types_of store.new ≡ S.types_of store.old }
         ensures does { CreateDoes (S.types_of store.old) (S.state_of store.old) (S.state_of store.new) self.old self.new directory name.now attributes result }
     {
-        let inode = new_block(self.tree, &self.memory, Kind::File, attributes, 0);
+        let inode = new_block(self.tree, &self.memory, Kind::File, attributes, 0, &[]);
+        match self.make(alloc, store, directory, name, &inode) {
+            Ok(plan) => Ok(plan.number),
+            Err(fault) => Err(fault),
+        }
+    }
+
+    /// Makes a symbolic link whose target has at most 384 bytes, and answers its number. The faults are those of `create`.
+    pub fn symlink<S: Store>(
+        &mut self,
+        alloc: Global,
+        store: &mut S,
+        directory: u32,
+        name: &[u8],
+        attributes: Attributes,
+        target: &[u8],
+    ) -> Result<u32, Fault>
+        requires permissions { attributes.permissions < 4096 }
+        requires short { length target.now ≤ 384 }
+        ensures types { S.types_of store.new ≡ S.types_of store.old }
+        ensures does { SymlinkDoes (S.types_of store.old) (S.state_of store.old) (S.state_of store.new) self.old self.new directory name.now attributes
+            target.now result }
+    {
+        let inode = new_block(
+            self.tree,
+            &self.memory,
+            Kind::SymbolicLink,
+            attributes,
+            0,
+            target,
+        );
         match self.make(alloc, store, directory, name, &inode) {
             Ok(plan) => Ok(plan.number),
             Err(fault) => Err(fault),
@@ -138,6 +173,7 @@ impl Volume {
             Kind::Directory,
             attributes,
             directory,
+            &[],
         );
         match self.make(alloc, store, directory, name, &inode) {
             Ok(plan) => {
