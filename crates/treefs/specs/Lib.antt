@@ -1,2 +1,4 @@
+pub mod Creating
+pub mod Linking
 pub mod Remembered
 pub mod Unlinking

@@ -2,7 +2,9 @@
 //! May touch: memory.
 #![tactic(auto)]
 
+mod attributes;
 mod memory;
 mod volume;
 
+pub use attributes::Attributes;
 pub use volume::Volume;

@@ -2,6 +2,7 @@
 
 use treefs_edits::{Memory, Tree};
 
+mod creating;
 mod names;
 
 /// A volume of a store, with what its session keeps in memory.

@@ -51,7 +51,8 @@ Begun T fs start old new result = Gives (init_of T old fs start.ty start.bytes) 
 abbrev pub Begins : Types → ℕ → List Start → List ℕ → StoreState → StoreState → Result (List ℕ) Fault → Type 0
 Begins T fs [] begun old new result = (result ≡ Ok begun) × (new ≡ old)
 Begins T fs (start ∷ starts) begun old new result =
-    MatchResult result (λ blocks. ⊥) (λ fault. (reason : Refusal) × Begun T fs start old old (Err reason) × (fault ≡ start_fault reason) × (new ≡ forgotten T fs begun old))
+    MatchResult result (λ blocks. ⊥)
+    (λ fault. (reason : Refusal) × Begun T fs start old old (Err reason) × (fault ≡ start_fault reason) × (new ≡ forgotten T fs begun old))
     ⊎ ((made : ℕ × ℕ) × (middle : StoreState) × Begun T fs start old middle (Ok made) × Begins T fs starts (begun ++ made.0 ∷ []) middle new result)
 
 -- Carrying out

@@ -51,7 +51,8 @@ fn make_acts<S: Store, P: Planned>(
     begun: &[u32],
 ) -> Result<(), Fault>
     ensures types { S.types_of store.new ≡ S.types_of store.old }
-    ensures keeps { Keeps (S.types_of store.old) fs.number begun.now ((P.plan planned.now).acts begun.now) (S.state_of store.old) (S.state_of store.new) result }
+    ensures keeps { Keeps (S.types_of store.old) fs.number begun.now ((P.plan planned.now).acts begun.now) (S.state_of store.old) (S.state_of store.new)
+        result }
 {
     let made = match planned.acts(alloc, begun) {
         Ok(acts) => run(store, fs, acts),

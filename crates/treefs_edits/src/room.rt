@@ -31,7 +31,7 @@ pub fn has_room<S: Store>(
 }
 
 /// Whether there is room in each of some blocks for so many more entries.
-fn have_room<S: Store>(store: &S, parts: &[(u32, u32)]) -> bool
+pub fn have_room<S: Store>(store: &S, parts: &[(u32, u32)]) -> bool
     ensures { result ≡ list_all (has_room_in (S.state_of store.now)) parts.now }
 {
     parts.iter().all(|part| has_room_in(store, part.0, part.1))

@@ -1,1 +1,3 @@
+pub mod FreeNames
+pub mod Placed
 pub mod Within

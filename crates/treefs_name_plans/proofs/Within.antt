@@ -38,7 +38,7 @@ then_ok {A} {B} (Err fault) f y e = absurd (cc e)
 abbrev pub IsWithin : (ℕ → List ℕ) → Slot → Type 0
 IsWithin content slot = slot.offset ≤ 128 + length (content slot.block)
 
-fits : (content : ℕ → List ℕ) (x y : ℕ) (a b : Bool) →
+pub fits : (content : ℕ → List ℕ) (x y : ℕ) (a b : Bool) →
     (if a then 128 else 0) + length (if a then drop 128 (content x) else (if b then [] else content y)) ≤ 128 + length (content (if a then x else y))
 fits content x y true b = let e = length-drop 128 (content x) in omega (arith, e)
 fits content x y false true = omega arith

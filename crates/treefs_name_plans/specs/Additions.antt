@@ -3,14 +3,15 @@
 --     Addition                    where the record goes
 --     addition_starts             the blocks that are begun for it
 --     rewriting, addition_acts    a bucket is first rewritten; what makes the record
-use Rattle.std.specs.Prelude.{ℕ, List, [], ◌∷◌, ◌++◌, drop, length, reverse, slice_index, take, ◌-◌, Some, None}
+use Rattle.std.specs.Prelude.{ℕ, List, [], ◌∷◌, ◌++◌, drop, length, reverse, slice_index, take, ◌-◌, Some, None, nat_lt, if◌then◌else◌}
 use Rattle.treefs_format.specs.Nodes.{node_bytes}
-use Rattle.treefs_format.specs.Paths.{steps}
+use Rattle.treefs_format.specs.Paths.{leaf_count, steps}
 use Rattle.treefs_format.specs.Records.{Entry}
 use Rattle.treefs_model.specs.Acts.{Act, attach_act, record_act, wait_act}
 use Rattle.treefs_edits.specs.declared.start.Start.{Start}
 use Rattle.treefs_edits.specs.Kinds.{rewritten_act}
 pub use Rattle.treefs_name_plans.specs.declared.addition.NewBucket.{NewBucket}
+use Rattle.treefs_name_plans.specs.declared.addition.OldBucket.{OldBucket}
 pub use Rattle.treefs_name_plans.specs.declared.addition.Addition.{Addition}
 use Rattle.treefs_name_plans.specs.declared.addition.Addition.TheVariants.{Behind, Rewritten, Made}
 
@@ -42,7 +43,7 @@ path_acts node_type owner (offset ∷ offsets) (block ∷ begun) =
 
 -- the pointers of the path to a leaf that are missing, where so many are
 abbrev pub missing_path : ℕ → ℕ → List ℕ
-missing_path leaf missing = reverse (take missing (steps leaf))
+missing_path leaf missing = if nat_lt leaf leaf_count then reverse (take missing (steps leaf)) else []
 
 abbrev pub bucket_path : NewBucket → List ℕ
 bucket_path made = missing_path made.leaf made.missing
@@ -54,10 +55,14 @@ addition_starts (Behind block offset) = []
 addition_starts (Rewritten old) = []
 addition_starts (Made made) = path_starts made.node_type (bucket_path made)
 
+-- where it begins
+abbrev pub old_start : OldBucket → ℕ
+old_start old = if old.in_inode then 128 else 0
+
 -- before all other acts of the call
 abbrev pub rewriting : Addition → List Act
 rewriting (Behind block offset) = []
-rewriting (Rewritten old) = rewritten_act old.block old.start (drop old.start old.bytes) ∷ []
+rewriting (Rewritten old) = rewritten_act old.block (old_start old) (drop (old_start old) old.bytes) ∷ []
 rewriting (Made made) = []
 
 abbrev pub last_block : List ℕ → ℕ

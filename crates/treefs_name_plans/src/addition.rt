@@ -1,8 +1,5 @@
 // Where a record goes that is made in a directory.
 
-ghost use Rattle.std.specs.Prelude.{◌<◌, ◌≤◌};
-ghost use Rattle.treefs_format.specs.Paths.{leaf_count};
-
 /// A bucket that is made, with the nodes that its path lacks.
 #[derive(Clone, Copy, Debug)]
 pub struct NewBucket {
@@ -14,7 +11,6 @@ pub struct NewBucket {
     pub missing: usize,
     /// The type of nodes.
     pub node_type: u8,
-    ghost there: { leaf < leaf_count },
 }
 
 /// A bucket that is rewritten without its dead records, before a record is made behind the live ones.
@@ -22,13 +18,12 @@ pub struct NewBucket {
 pub struct OldBucket {
     /// Its block.
     pub block: u32,
-    /// The byte of the block at which it begins.
-    pub start: usize,
+    /// Whether it stands in an inode block, from byte 128 on; else it is a whole block.
+    pub in_inode: bool,
     /// The bytes of the block.
     pub bytes: [u8; 512],
     /// The byte of the block at which the new record begins.
     pub offset: u16,
-    ghost within: { start ≤ 512 },
 }
 
 /// Where a new record goes.

@@ -7,6 +7,7 @@ use crate::addition::Addition;
 use crate::missing::{missing_path, push_path_acts, push_path_starts};
 use std::alloc::{AllocError, Global};
 use treefs_edits::{Act, Start, kinds};
+use treefs_format::inodes::CONTENT;
 
 /// The last of the blocks that were begun; 0 where none was.
 fn last_block(begun: &[u32]) -> u32
@@ -41,8 +42,8 @@ impl Addition {
         ensures { IfOk result (λ _. acts.new.items ≡ acts.old.items ++ rewriting self.now) }
     {
         if let Addition::Rewritten(old) = self {
-            let bucket = &old.bytes[old.start..];
-            acts.push(kinds::rewrite(alloc, old.block, old.start, bucket)?)?;
+            let start = if old.in_inode { CONTENT } else { 0 };
+            acts.push(kinds::rewrite(alloc, old.block, start, &old.bytes[start..])?)?;
         }
         Ok(())
     }

@@ -8,7 +8,7 @@ use arrayvec::ArrayVec;
 use std::alloc::{AllocError, Global};
 use treefs_edits::{Act, Start, kinds};
 use treefs_format::nodes::new_node;
-use treefs_format::paths::path;
+use treefs_format::paths::{LEAVES, path};
 
 /// The type of a leaf.
 const LEAF: u8 = 2;
@@ -79,9 +79,11 @@ pub fn push_path_acts(
 
 /// The pointers of the path to a leaf that are missing, where so many are.
 pub fn missing_path(leaf: u32, missing: usize) -> ArrayVec<u16, 5>
-    requires { leaf < leaf_count }
     ensures { result.items ≡ missing_path leaf missing }
 {
+    if leaf >= LEAVES {
+        return ArrayVec::new();
+    }
     let mut offsets = path(leaf);
     offsets.truncate(missing);
     offsets.as_mut_slice().reverse();

@@ -6,7 +6,7 @@ ghost use Rattle.treefs_name_plans.specs.Ends.{file_ended};
 ghost use Rattle.treefs_name_plans.specs.declared.ended.Ended.{Ended};
 
 use edit_list::Fs;
-use treefs_lookup::{Slot, read_block};
+use treefs_lookup::read_block;
 use xn_state::Store;
 
 /// The record of a name that is found begins within its block.
@@ -31,11 +31,11 @@ fn is_block(bytes: &[u8; 512])
     let _ = bytes;
 }
 
-/// The byte of its block at which a record begins.
-pub fn narrow_offset<S: Store>(store: &S, fs: Fs, slot: Slot) -> u16
-    requires { slot.offset ≤ 128 + length (readable (S.state_of store.now) fs.number slot.block) }
-    ensures { result ≡ slot.offset }
+/// The byte of a block at which a record begins.
+pub fn narrow<S: Store>(store: &S, fs: Fs, block: u32, offset: usize) -> u16
+    requires { offset ≤ 128 + length (readable (S.state_of store.now) fs.number block) }
+    ensures { result ≡ offset }
 {
-    is_short(store, fs, slot.block);
-    slot.offset as u16
+    is_short(store, fs, block);
+    offset as u16
 }

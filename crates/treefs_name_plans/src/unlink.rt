@@ -7,7 +7,7 @@ ghost use Rattle.treefs_name_plans.specs.Ends.{IsOther, IsOtherBucket, IsUnlinkP
 use crate::end::EndPlan;
 use crate::ended::Ended;
 use crate::link_change::LinkChange;
-use crate::slots::{narrow_offset, slots_are_within};
+use crate::slots::{narrow, slots_are_within};
 use treefs_edits::{Memory, Times, Tree, has_room};
 use treefs_format::Kind;
 use treefs_lookup::{Found, Sought, find_directory, find_entry, find_inode, next_bucket};
@@ -124,7 +124,7 @@ fn plan_end<S: Store>(
     Ok(EndPlan {
         number: slot.number,
         block: slot.block,
-        offset: narrow_offset(store, tree.fs, slot),
+        offset: narrow(store, tree.fs, slot.block, slot.offset),
         behind,
         fewer: fewer_links(memory, slot.number, &ended.inode),
     })

@@ -1,14 +1,15 @@
 // The calls on names.
 
 ghost use Rattle.std.specs.Prelude.{◌≡◌};
+ghost use Rattle.treefs.specs.Linking.{LinkDoes};
 ghost use Rattle.treefs.specs.Unlinking.{UnlinkDoes};
 
-use crate::memory::{note_orphan, touch_end};
+use crate::memory::{note_orphan, now_times, record_entry, touch_end, touch_link};
 use crate::volume::Volume;
 use std::alloc::Global;
-use treefs_edits::{Times, carry_out, lacks_memory};
+use treefs_edits::{carry_out, lacks_memory};
 use treefs_model::Fault;
-use treefs_name_plans::plan_unlink;
+use treefs_name_plans::{Linking, plan_link, plan_unlink};
 use xn_state::Store;
 
 impl Volume {
@@ -37,12 +38,45 @@ impl Volume {
             .reserve(1)
             .map_err(|error| lacks_memory(error))?;
         carry_out(alloc, store, tree.fs, &plan)?;
-        let now = Times {
-            mtime: memory.clock,
-            ctime: memory.clock,
-        };
+        let now = now_times(memory);
         touch_end(&mut memory.touched, now, directory, &plan);
         note_orphan(&mut memory.orphans, &plan);
+        Ok(())
+    }
+
+    /// Gives a file or a symbolic link one more name, in a directory. The faults are, in this order, those of the directory (`NoEntry`, `NotDir`,
+    /// `NoEntry` where it has no link), of the inode `NoEntry`, `IsDir`, and `NoEntry` where it has no link, `BadName`, `Exists`, `Full` or `TooLarge`
+    /// where there is no place for the name, `TooLarge` where the inode has 2^32 - 1 links, `Full`, `NoSpace`. `Kernel` comes for want of memory,
+    /// or where the store refuses an edit.
+    pub fn link<S: Store>(
+        &mut self,
+        alloc: Global,
+        store: &mut S,
+        number: u32,
+        directory: u32,
+        name: &[u8],
+    ) -> Result<(), Fault>
+        ensures types { S.types_of store.new ≡ S.types_of store.old }
+        ensures does { LinkDoes (S.types_of store.old) (S.state_of store.old) (S.state_of store.new) self.old self.new number directory name.now result }
+    {
+        let tree = self.tree;
+        let memory = &mut self.memory;
+        let plan = plan_link(store, tree, memory, number, directory, name)?;
+        memory
+            .touched
+            .reserve(1)
+            .map_err(|error| lacks_memory(error))?;
+        carry_out(alloc, store, tree.fs, &Linking { plan, name })?;
+        let now = now_times(memory);
+        let last_link = record_entry(
+            store,
+            tree.fs,
+            plan.directory,
+            &plan.addition,
+            memory.last_link,
+        );
+        touch_link(&mut memory.touched, now, directory, plan.number);
+        memory.last_link = last_link;
         Ok(())
     }
 }

@@ -1,0 +1,91 @@
+// How a new inode gets its first name.
+
+ghost use Rattle.std.specs.Prelude.{◌≡◌, ◌≤◌, length, OnOk};
+ghost use Rattle.treefs_format.specs.Paths.{leaf_count};
+ghost use Rattle.treefs_name_plans.specs.NewPlans.{IsNewPlanned, IsNumberFound, free_in_room, new_in_room};
+
+use crate::addition::Addition;
+use crate::new_names::{addition_parts, find_addition, find_free_name, free_names_are_short};
+use crate::new_plan::NewPlan;
+use treefs_edits::{Memory, Tree, has_room, have_room};
+use treefs_lookup::{find_leaf, find_number};
+use treefs_model::Fault;
+use xn_state::Store;
+
+/// The inode block of a directory that does not have a name yet, where there is room for a first block. The faults are those of the
+/// directory, `BadName`, `Exists`, and `Full`.
+fn find_free_in_room<S: Store>(
+    store: &S,
+    tree: Tree,
+    memory: &Memory,
+    directory: u32,
+    name: &[u8],
+) -> Result<u32, Fault>
+    ensures planned { result ≡ free_in_room (S.state_of store.now) tree memory.now directory name.now }
+    ensures short { OnOk result (length name.now ≤ 255) }
+{
+    free_names_are_short();
+    let block = find_free_name(store, tree, directory, name)?;
+    if !has_room(store, tree.fs, memory.touched.len(), 2, &[]) {
+        return Err(Fault::Full);
+    }
+    Ok(block)
+}
+
+/// The number that a new inode gets. The faults are `Full` and `NoInode`.
+fn find_new_number<S: Store>(store: &S, tree: Tree, memory: &Memory) -> Result<u32, Fault>
+    ensures { IsNumberFound (S.state_of store.now) tree memory.now result }
+{
+    find_number(store, tree.fs, tree.top, memory.hint)
+}
+
+/// What a new inode with its first name takes, where there is room for it; else the fault is `Full`.
+fn new_in_room<S: Store>(
+    store: &S,
+    tree: Tree,
+    memory: &Memory,
+    number: u32,
+    directory: u32,
+    inode: &[u8; 512],
+    addition: Addition,
+) -> Result<NewPlan, Fault>
+    requires { number ≤ leaf_count }
+    ensures { result ≡ new_in_room (S.state_of store.now) tree memory.now number directory inode.now addition }
+{
+    let table = find_leaf(store, tree.fs, tree.top, number.saturating_sub(1));
+    let parts = addition_parts(&addition, directory);
+    let room = has_room(store, tree.fs, memory.touched.len(), 31, &parts)
+        && have_room(store, &[(table.block, 2)]);
+    if !room {
+        return Err(Fault::Full);
+    }
+    Ok(NewPlan {
+        number,
+        directory,
+        inode: *inode,
+        node_type: tree.node_type,
+        inode_type: tree.inode_type,
+        owner: table.block,
+        missing: table.missing,
+        addition,
+    })
+}
+
+/// What a new inode, with these bytes in its block, and its first name take. The faults are those of the directory, `BadName`, `Exists`, `Full`,
+/// then of the number `Full` and `NoInode`, then `Full` or `TooLarge` where there is no place for the name, and `Full` where there is no room.
+pub fn plan_new<S: Store>(
+    store: &S,
+    tree: Tree,
+    memory: &Memory,
+    directory: u32,
+    name: &[u8],
+    inode: &[u8; 512],
+) -> Result<NewPlan, Fault>
+    ensures planned { IsNewPlanned (S.state_of store.now) tree memory.now directory name.now inode.now result }
+    ensures short { OnOk result (length name.now ≤ 255) }
+{
+    let block = find_free_in_room(store, tree, memory, directory, name)?;
+    let number = find_new_number(store, tree, memory)?;
+    let addition = find_addition(store, tree, directory, block, name)?;
+    new_in_room(store, tree, memory, number, block, inode, addition)
+}

@@ -1,0 +1,144 @@
+// A new name in a directory.
+
+ghost use Rattle.std.specs.Prelude.{◌≡◌, ◌<◌, ◌≤◌, ◌-◌, ℕ, List, Ok, length, IfOk};
+ghost use Rattle.xn_model.specs.Lives.{StoreState};
+ghost use Rattle.treefs_lookup.specs.Names.{place_of};
+ghost use Rattle.treefs_format.specs.Paths.{leaf_count, steps};
+ghost use Rattle.treefs_lookup.specs.Readable.{readable};
+ghost use Rattle.treefs_lookup.specs.Walks.{reach};
+ghost use Rattle.treefs_lookup.specs.declared.places.NamePlace.{NamePlace};
+ghost use Rattle.treefs_name_plans.specs.NewNames.{IsWithinBlocks, addition_at, addition_in, addition_parts, free_name, made_at, place_in};
+
+use crate::addition::{Addition, NewBucket, OldBucket};
+use crate::slots::narrow;
+use treefs_edits::Tree;
+use treefs_format::inodes::CONTENT;
+use treefs_lookup::{
+    NamePlace, find_directory, find_entry, find_leaf, find_place, read_block, read_key,
+};
+use treefs_model::Fault;
+use xn_state::Store;
+
+/// The place of a new name begins within its block, or is a leaf that is to be made.
+pub fn places_are_within()
+    ensures { (state : StoreState) (fs : ℕ) (key : List ℕ) (inode : ℕ) (name : List ℕ) (place : NamePlace) → place_of state fs key inode name ≡ Ok place →
+        IsWithinBlocks (readable state fs) place }
+{}
+
+/// A name that a directory does not have yet has at most 255 bytes.
+pub fn free_names_are_short()
+    ensures { (content : ℕ → List ℕ) (top d directory : ℕ) (name : List ℕ) → free_name content top d name ≡ Ok directory → length name ≤ 255 }
+{}
+
+/// The inode block of a directory that does not have a name yet. The faults are those of the directory, `BadName`, and `Exists`.
+pub fn find_free_name<S: Store>(
+    store: &S,
+    tree: Tree,
+    directory: u32,
+    name: &[u8],
+) -> Result<u32, Fault>
+    ensures { result ≡ free_name (readable (S.state_of store.now) tree.fs.number) tree.top directory name.now }
+{
+    let block = find_directory(store, tree.fs, tree.top, directory)?.block;
+    match find_entry(store, tree.fs, tree.top, directory, name) {
+        Ok(_) => Err(Fault::Exists),
+        Err(Fault::NoEntry) => Ok(block),
+        Err(fault) => Err(fault),
+    }
+}
+
+/// Where a new name goes in a directory. The faults are those of the directory, `Full`, and `TooLarge`.
+fn find_place_in<S: Store>(
+    store: &S,
+    tree: Tree,
+    directory: u32,
+    name: &[u8],
+) -> Result<NamePlace, Fault>
+    ensures place { result ≡ place_in (S.state_of store.now) tree.fs.number tree.top directory name.now }
+    ensures within { IfOk result (λ place. IsWithinBlocks (readable (S.state_of store.now) tree.fs.number) place) }
+{
+    places_are_within();
+    let found = find_directory(store, tree.fs, tree.top, directory)?;
+    let Some(key) = read_key(store, tree.fs, tree.top) else {
+        return Err(Fault::NoEntry);
+    };
+    find_place(store, tree.fs, &key, found.block, name)
+}
+
+/// The bytes of a block that may be read; of another zeros.
+fn bytes_of<S: Store>(store: &S, tree: Tree, block: u32) -> [u8; 512]
+    requires { 0 < length (readable (S.state_of store.now) tree.fs.number block) }
+    ensures { result ≡ readable (S.state_of store.now) tree.fs.number block }
+{
+    match read_block(store, tree.fs, block) {
+        Some(bytes) => *bytes,
+        None => unreachable!(),
+    }
+}
+
+/// The bucket of a directory that is to be made, and what its path lacks.
+fn new_bucket<S: Store>(store: &S, tree: Tree, directory: u32, bucket: u32) -> NewBucket
+    requires { bucket ≤ leaf_count }
+    ensures { Addition.Made result ≡ made_at tree.node_type (bucket - 1)
+        (reach (readable (S.state_of store.now) tree.fs.number) directory (steps (bucket - 1))) }
+{
+    let leaf = bucket.saturating_sub(1);
+    let reach = find_leaf(store, tree.fs, directory, leaf);
+    NewBucket {
+        owner: reach.block,
+        leaf,
+        missing: reach.missing,
+        node_type: tree.node_type,
+    }
+}
+
+/// What a place for a record takes, in the directory with this inode block.
+fn addition_at<S: Store>(store: &S, tree: Tree, directory: u32, place: NamePlace) -> Addition
+    requires { IsWithinBlocks (readable (S.state_of store.now) tree.fs.number) place }
+    ensures { result ≡ addition_at (readable (S.state_of store.now) tree.fs.number) tree.node_type directory place }
+{
+    match place {
+        NamePlace::DeadRecord { block, offset } | NamePlace::Behind { block, offset } => {
+            Addition::Behind(block, narrow(store, tree.fs, block, offset))
+        }
+        NamePlace::Rewritten {
+            block,
+            start,
+            offset,
+        } => Addition::Rewritten(OldBucket {
+            block,
+            in_inode: start == CONTENT,
+            bytes: bytes_of(store, tree, block),
+            offset: narrow(store, tree.fs, block, offset),
+        }),
+        NamePlace::NewBucket { bucket } => {
+            Addition::Made(new_bucket(store, tree, directory, bucket))
+        }
+    }
+}
+
+/// Where the record of a new name goes in a directory; `block` is its inode block. The faults are those of the directory, `Full`, and
+/// `TooLarge`.
+pub fn find_addition<S: Store>(
+    store: &S,
+    tree: Tree,
+    directory: u32,
+    block: u32,
+    name: &[u8],
+) -> Result<Addition, Fault>
+    ensures { result ≡ addition_in (S.state_of store.now) tree directory block name.now }
+{
+    let place = find_place_in(store, tree, directory, name)?;
+    Ok(addition_at(store, tree, block, place))
+}
+
+/// In which blocks how many entries may come to be pending for an addition to the directory with this inode block.
+pub fn addition_parts(addition: &Addition, directory: u32) -> [(u32, u32); 2]
+    ensures { result ≡ addition_parts addition.now directory }
+{
+    match addition {
+        Addition::Behind(block, _) => [(*block, 3), (directory, 3)],
+        Addition::Rewritten(old) => [(old.block, 3), (directory, 3)],
+        Addition::Made(made) => [(made.owner, 2), (directory, 4)],
+    }
+}
