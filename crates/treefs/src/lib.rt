@@ -1,4 +1,4 @@
-//! A file system of trees over a store: files and directories by name, whose names stay good in every image that a crash may leave.
+//! Calls of a file system of trees over a store: each answers its first fault, or makes exactly the edits that were planned for it.
 //! May touch: memory.
 #![tactic(auto)]
 
