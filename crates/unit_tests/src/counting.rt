@@ -3,23 +3,33 @@
 ghost use Rattle.std.specs.Prelude.{⊤};
 ghost use Rattle.disk.specs.Mem.{memory_leaves};
 
-use crate::disks::{fresh_lanes, fs};
-use crash_check::mount;
+use crate::disks::{fresh_lanes, fs, give, is, mounted, no_lanes, take};
 use disk::{BLOCK_LEN, DeviceFault, Lane, Lanes, MemLane};
 use std::alloc::Global;
+use std::process::Abort;
 use std::sync::Arc;
 use std::sync::atomic::{AtomicU64, Ordering};
-use std::test::Fail;
 use xn_kernel::{EditId, FlushStop, Kernel, Store};
 
 /// A lane in memory. All lanes of a disk have one count of writes, syncs and reads, and each keeps at which of them its own came last.
-#[derive(Drop)]
 struct CountingLane {
     lane: MemLane,
     count: Arc<AtomicU64, Global>,
     written_at: Option<u64>,
     synced_at: Option<u64>,
     read_at: Option<u64>,
+}
+
+impl Drop for CountingLane {
+    fn drop(self) {
+        let CountingLane {
+            lane: _,
+            count: _,
+            written_at: _,
+            synced_at: _,
+            read_at: _,
+        } = self;
+    }
 }
 
 impl Lane for CountingLane {
@@ -62,43 +72,45 @@ impl Lane for CountingLane {
 }
 
 /// Such lanes of a fresh disk of 32 blocks.
-fn counting_lanes(alloc: Global) -> Result<Lanes<CountingLane>, Fail> {
-    let count = Arc::new(alloc, AtomicU64::new(0))?;
-    let mut lanes = fresh_lanes(alloc)?;
-    let mut counting = Lanes::new(alloc, 32)?;
+fn counting_lanes(rt: &impl Abort, alloc: Global) -> Lanes<CountingLane> {
+    let count = Arc::new(alloc, AtomicU64::new(0)).expect(rt, "memory");
+    let mut lanes = fresh_lanes(rt, alloc);
+    let mut counting = no_lanes(rt, alloc);
     for block in 0..32 {
-        if lanes.blocks() != 32 {
-            return Err("another count".into());
-        }
         let lane = CountingLane {
-            lane: lanes.take(block).ok_or("no lane")?,
-            count: Arc::try_clone(&count)?,
+            lane: take(rt, &mut lanes, block),
+            count: Arc::try_clone(&count).expect(rt, "a count"),
             written_at: None,
             synced_at: None,
             read_at: None,
         };
-        if counting.give(lane).is_err() {
-            return Err("no place".into());
-        }
+        give(rt, &mut counting, lane);
     }
-    Ok(counting)
+    counting
+}
+
+/// Whether a lane was synced last at this count, and, where these are asked for, read and written at those.
+fn is_turn(lane: &CountingLane, synced: u64, read: Option<u64>, written: Option<u64>) -> bool {
+    lane.synced_at == Some(synced)
+        && (read.is_none() || lane.read_at == read)
+        && (written.is_none() || lane.written_at == written)
 }
 
 #[test]
-fn a_mount_syncs_and_reads_each_lane_by_rising_number(rt: HostRuntime) -> Result<(), Fail> {
-    let lanes = counting_lanes(rt.alloc())?;
-    let Ok(kernel) = mount(&rt, rt.alloc(), lanes, 1) else {
-        return Err("no mount".into());
-    };
+fn a_mount_syncs_and_reads_each_lane_by_rising_number(rt: HostRuntime) {
+    let lanes = counting_lanes(&rt, rt.alloc());
+    let kernel = mounted(&rt, rt.alloc(), lanes, 1);
     for block in 0..32u32 {
-        let lane = kernel.lane(block).ok_or("no lane")?;
+        let lane = kernel.lane(block).expect(&rt, "a lane");
         let turn = 2 * u64::from(block);
-        assert_eq!(rt; lane.synced_at, Some(turn));
-        assert_eq!(rt; lane.read_at, Some(turn + 1));
+        is(
+            &rt,
+            "a sync and a read",
+            is_turn(lane, turn, Some(turn + 1), None),
+        );
     }
-    let lane = kernel.lane(0).ok_or("no lane")?;
-    assert_eq!(rt; lane.count.load(Ordering::SeqCst), 64);
-    Ok(())
+    let lane = kernel.lane(0).expect(&rt, "a lane");
+    is(&rt, "64 of both", lane.count.load(Ordering::SeqCst) == 64);
 }
 
 /// How many waves a flush took; `None` where it stopped, and its tickets are given up.
@@ -121,23 +133,24 @@ fn flushed(kernel: &mut Kernel<CountingLane>, alloc: Global) -> Option<u32> {
 }
 
 #[test]
-fn a_wave_is_written_before_its_first_sync(rt: HostRuntime) -> Result<(), Fail> {
-    let lanes = counting_lanes(rt.alloc())?;
-    let Ok(mut kernel) = mount(&rt, rt.alloc(), lanes, 1) else {
-        return Err("no mount".into());
-    };
-    let owner = fs(0)?;
+fn a_wave_is_written_before_its_first_sync(rt: HostRuntime) {
+    let lanes = counting_lanes(&rt, rt.alloc());
+    let mut kernel = mounted(&rt, rt.alloc(), lanes, 1);
+    let owner = fs(&rt, 0);
     for block in 1..4u32 {
         let begun = kernel.init(owner, 2, &[0x41; 512]);
-        assert_eq!(rt; begun, Ok((block, EditId(u64::from(block)))));
+        is(
+            &rt,
+            "a block",
+            begun == Ok((block, EditId(u64::from(block)))),
+        );
     }
-    assert_eq!(rt; flushed(&mut kernel, rt.alloc()), Some(1));
+    is(&rt, "one wave", flushed(&mut kernel, rt.alloc()) == Some(1));
     // Behind the mount's 64 syncs and reads come three writes, and then three syncs, each with its read.
     for block in 1..4u32 {
-        let lane = kernel.lane(block).ok_or("no lane")?;
+        let lane = kernel.lane(block).expect(&rt, "a lane");
         let number = u64::from(block);
-        assert_eq!(rt; lane.written_at, Some(63 + number));
-        assert_eq!(rt; lane.synced_at, Some(73 - 2 * number));
+        let is_right = is_turn(lane, 73 - 2 * number, None, Some(63 + number));
+        is(&rt, "a write and a sync", is_right);
     }
-    Ok(())
 }

@@ -1,18 +1,17 @@
 // The calls of a map of free blocks that a store makes in other ways.
 
+use crate::disks::is;
 use free_map::FreeMap;
-use std::test::Fail;
 
 #[test]
-fn the_lowest_free_block_is_taken(rt: HostRuntime) -> Result<(), Fail> {
-    let mut free = FreeMap::new(rt.alloc(), 32)?;
+fn the_lowest_free_block_is_taken(rt: HostRuntime) {
+    let mut free = FreeMap::new(rt.alloc(), 32).expect(&rt, "memory");
     free.take(0);
-    assert_eq!(rt; free.take_lowest(), Some(1));
-    assert!(rt; !free.is_free(1));
-    assert!(rt; free.is_free(31));
-    assert!(rt; !free.is_free(32), "there is no such block");
+    is(&rt, "block 1", free.take_lowest() == Some(1));
+    is(&rt, "a block that was taken", !free.is_free(1));
+    is(&rt, "a free block", free.is_free(31));
+    is(&rt, "there is no such block", !free.is_free(32));
     free.give(0);
-    assert_eq!(rt; free.take_lowest(), Some(0));
-    assert_eq!(rt; free.count(), 30);
-    Ok(())
+    is(&rt, "block 0", free.take_lowest() == Some(0));
+    is(&rt, "30 free blocks", free.count() == 30);
 }

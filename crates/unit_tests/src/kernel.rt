@@ -1,52 +1,26 @@
 // A kernel over lanes that fail, and its calls that no script has.
 
-use crate::disks::{failing_lanes, fresh_lanes, fs};
-use crash_check::mount;
+use crate::disks::{failing_lanes, fresh_lanes, fs, is, mounted};
 use disk::{Lane, Lanes, MemLane, PlanLane};
 use std::alloc::Global;
-use std::test::Fail;
+use std::process::Abort;
 use std::thread::Threads;
 use xn_kernel::{DrainStop, EditId, Fs, Kernel, Landed, Refusal, Store, Ticket};
 
 // These functions have no contracts, so that the proofs of the tests stay short.
 
-/// The kernel over these lanes.
-fn mounted(
-    rt: &(impl Threads + Sync),
-    alloc: Global,
-    lanes: Lanes<PlanLane>,
-) -> Result<Kernel<PlanLane>, Fail> {
-    match mount(rt, alloc, lanes, 1) {
-        Ok(kernel) => Ok(kernel),
-        Err(_) => Err("no mount".into()),
-    }
-}
-
-/// What `Kernel::init` answers.
-fn init(kernel: &mut Kernel<PlanLane>, fs: Fs) -> Result<(u32, EditId), Refusal> {
-    kernel.init(fs, 2, &[0x41; 512])
-}
-
-/// What `Kernel::make_root` answers.
-fn make_root(kernel: &mut Kernel<PlanLane>, fs: Fs) -> Result<EditId, Refusal> {
-    kernel.make_root(fs, 1)
-}
-
 /// The kernel over these lanes, in which file system 0 has started block 1 and made it its root.
-fn rooted(
-    rt: &(impl Threads + Sync),
+fn rooted<R: Threads + Abort + Sync>(
+    rt: &R,
     alloc: Global,
     lanes: Lanes<PlanLane>,
-) -> Result<Kernel<PlanLane>, Fail> {
-    let mut kernel = mounted(rt, alloc, lanes)?;
-    let owner = fs(0)?;
-    if init(&mut kernel, owner) != Ok((1, EditId(1))) {
-        return Err("no first block".into());
-    }
-    if make_root(&mut kernel, owner) != Ok(EditId(2)) {
-        return Err("no root".into());
-    }
-    Ok(kernel)
+) -> Kernel<PlanLane> {
+    let mut kernel = mounted(rt, alloc, lanes, 1);
+    let owner = fs(rt, 0);
+    let started = kernel.init(owner, 2, &[0x41; 512]);
+    is(rt, "a first block", started == Ok((1, EditId(1))));
+    is(rt, "a root", kernel.make_root(owner, 1) == Ok(EditId(2)));
+    kernel
 }
 
 /// How a drain ended: how many writes it finished, and, where it stopped, why, and the ticket that it gave out.
@@ -107,30 +81,27 @@ fn two_drains(kernel: Kernel<PlanLane>) -> [(u32, Option<Refusal>, bool); 2] {
 }
 
 #[test]
-fn a_drain_stops_where_a_write_fails(rt: HostRuntime) -> Result<(), Fail> {
-    let alloc = rt.alloc();
-    let lanes = failing_lanes(alloc, 1, None, Some((1, false)))?;
-    let ends = two_drains(rooted(&rt, alloc, lanes)?);
-    assert!(rt; ends == [(0, Some(Refusal::Device), false), (2, None, false)]);
-    let lanes = failing_lanes(alloc, 1, None, Some((1, true)))?;
-    let ends = two_drains(rooted(&rt, alloc, lanes)?);
-    assert!(rt; ends == [(2, None, false), (0, None, false)]);
-    Ok(())
+fn a_drain_stops_where_a_write_fails(rt: HostRuntime) {
+    let failed = [(0, Some(Refusal::Device), false), (2, None, false)];
+    let done = [(2, None, false), (0, None, false)];
+    for (stays, wanted) in [(false, failed), (true, done)] {
+        let lanes = failing_lanes(&rt, rt.alloc(), 1, None, Some((1, stays)));
+        let ends = two_drains(rooted(&rt, rt.alloc(), lanes));
+        is(&rt, "two drains", ends == wanted);
+    }
 }
 
-/// What is told of a block that isn't read back.
-#[derive(PartialEq, Drop)]
-struct Unread {
-    writes: u32,
-    stopped: Option<Refusal>,
-    block: u32,
-    begun: Option<Refusal>,
-    finished: Option<Landed>,
-    floor: u64,
-}
+/// What is told of a drain that can't read a block back: how many writes it finished, why it stopped, and at which block; why a write of block 0
+/// doesn't begin then; what the finish of the drain's ticket does, and the floor of a file system after it.
+type Unread = (
+    u32,
+    Option<Refusal>,
+    u32,
+    Option<Refusal>,
+    Option<Landed>,
+    u64,
+);
 
-/// How a drain ends that can't read a block back, why a write of block 0 doesn't begin then, what the finish of the drain's ticket
-/// does, and the floor of a file system after it.
 fn read_back(kernel: Kernel<PlanLane>, owner: Fs) -> Option<Unread> {
     let mut kernel = kernel;
     let (writes, stopped, ticket) = drained(&mut kernel);
@@ -138,36 +109,20 @@ fn read_back(kernel: Kernel<PlanLane>, owner: Fs) -> Option<Unread> {
     let block = ticket.block();
     let begun = begin(&mut kernel, 0);
     let finished = finish(&mut kernel, ticket);
-    Some(Unread {
-        writes,
-        stopped,
-        block,
-        begun,
-        finished,
-        floor: kernel.floor(owner),
-    })
+    Some((writes, stopped, block, begun, finished, kernel.floor(owner)))
 }
 
 #[test]
-fn a_drain_gives_out_the_ticket_of_a_block_that_is_not_read_back(
-    rt: HostRuntime,
-) -> Result<(), Fail> {
-    let alloc = rt.alloc();
-    let lanes = failing_lanes(alloc, 0, Some(2), None)?;
-    let told = read_back(rooted(&rt, alloc, lanes)?, fs(0)?);
-    let want = Unread {
-        writes: 1,
-        stopped: Some(Refusal::Device),
-        block: 0,
-        begun: Some(Refusal::InFlight),
-        finished: Some(Landed {
-            durable: 1,
-            freed: 0,
-        }),
-        floor: 3,
+fn a_drain_gives_out_the_ticket_of_a_block_that_is_not_read_back(rt: HostRuntime) {
+    let lanes = failing_lanes(&rt, rt.alloc(), 0, Some(2), None);
+    let told = read_back(rooted(&rt, rt.alloc(), lanes), fs(&rt, 0));
+    let landed = Landed {
+        durable: 1,
+        freed: 0,
     };
-    assert!(rt; told == Some(want));
-    Ok(())
+    let refusals = (Some(Refusal::Device), Some(Refusal::InFlight));
+    let wanted = Some((1, refusals.0, 0, refusals.1, Some(landed), 3));
+    is(&rt, "a ticket", told == wanted);
 }
 
 /// Why a finish is refused; the ticket as it comes back, or how many entries the finish made durable.
@@ -207,15 +162,15 @@ fn refused_finishes(kernel: &mut Kernel<MemLane>, owner: Fs) -> Result<([Refusal
 }
 
 #[test]
-fn a_finish_asks_for_a_sync(rt: HostRuntime) -> Result<(), Fail> {
-    let alloc = rt.alloc();
-    let lanes = fresh_lanes(alloc)?;
-    let Ok(mut kernel) = mount(&rt, alloc, lanes, 1) else {
-        return Err("no mount".into());
-    };
-    let told = refused_finishes(&mut kernel, fs(0)?);
-    assert!(rt; told == Ok(([Refusal::NotSynced; 3], 1)));
-    Ok(())
+fn a_finish_asks_for_a_sync(rt: HostRuntime) {
+    let lanes = fresh_lanes(&rt, rt.alloc());
+    let mut kernel = mounted(&rt, rt.alloc(), lanes, 1);
+    let told = refused_finishes(&mut kernel, fs(&rt, 0));
+    is(
+        &rt,
+        "three refusals",
+        told == Ok(([Refusal::NotSynced; 3], 1)),
+    );
 }
 
 /// The type and the root that a file system is told of block 1, whether block 0 and block 1 are tainted, and how many are free.
@@ -225,17 +180,16 @@ fn told(kernel: &Kernel<PlanLane>, fs: Fs) -> (Option<u32>, Option<u32>, [bool; 
     (kind, kernel.root(fs), tainted, kernel.free())
 }
 
-/// What the owner of block 1 is told, and another file system.
-fn both_told(kernel: Kernel<PlanLane>, owner: Fs, other: Fs) -> bool {
-    told(&kernel, owner) == (Some(2), Some(1), [true, false], 30)
-        && told(&kernel, other) == (None, None, [true, false], 30)
-}
-
 #[test]
-fn a_kernel_tells_what_it_has(rt: HostRuntime) -> Result<(), Fail> {
-    let alloc = rt.alloc();
-    let lanes = failing_lanes(alloc, 0, None, None)?;
-    let kernel = rooted(&rt, alloc, lanes)?;
-    assert!(rt; both_told(kernel, fs(0)?, fs(1)?));
-    Ok(())
+fn a_kernel_tells_what_it_has(rt: HostRuntime) {
+    let lanes = failing_lanes(&rt, rt.alloc(), 0, None, None);
+    let kernel = rooted(&rt, rt.alloc(), lanes);
+    let to_owner = told(&kernel, fs(&rt, 0));
+    is(
+        &rt,
+        "the owner",
+        to_owner == (Some(2), Some(1), [true, false], 30),
+    );
+    let to_other = told(&kernel, fs(&rt, 1));
+    is(&rt, "another", to_other == (None, None, [true, false], 30));
 }

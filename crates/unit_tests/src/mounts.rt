@@ -1,91 +1,60 @@
 // Mounts that give the lanes back, and what they sync.
 
-use crate::disks::{are_home, failing_lanes, fresh_lanes};
-use crash_check::{ImageFault, mount};
-use disk::{DeviceFault, Lane, Lanes, MemLane};
-use std::alloc::Global;
-use std::test::Fail;
-use std::thread::Threads;
-
-/// The fault of a mount, with the lanes that it gave back.
-fn faulty(
-    rt: &(impl Threads + Sync),
-    alloc: Global,
-    lanes: Lanes<MemLane>,
-) -> Result<(ImageFault, Lanes<MemLane>), Fail> {
-    match mount(rt, alloc, lanes, 1) {
-        Ok(_) => Err("a mount".into()),
-        Err(back) => Ok(back),
-    }
-}
+use crate::disks::{are_home, failing_lanes, faulty, fresh_lanes, give, is, mounted, take};
+use crash_check::ImageFault;
+use disk::{DeviceFault, Lane};
 
 #[test]
-fn a_mount_gives_the_lanes_back(rt: HostRuntime) -> Result<(), Fail> {
-    let mut lanes = fresh_lanes(rt.alloc())?;
-    if lanes.blocks() != 32 {
-        return Err("another count".into());
-    }
-    let mut lane = lanes.take(31).ok_or("no lane")?;
-    let (fault, mut lanes) = faulty(&rt, rt.alloc(), lanes)?;
-    assert_eq!(rt; fault, ImageFault::BadLength);
+fn a_mount_gives_the_lanes_back(rt: HostRuntime) {
+    let mut lanes = fresh_lanes(&rt, rt.alloc());
+    let mut lane = take(&rt, &mut lanes, 31);
+    let mut lanes = faulty(&rt, rt.alloc(), lanes, ImageFault::BadLength);
     lane.fail_read();
-    assert!(rt; lanes.give(lane).is_ok());
-    let (fault, lanes) = faulty(&rt, rt.alloc(), lanes)?;
-    assert_eq!(rt; fault, ImageFault::Device);
-    assert!(rt; mount(&rt, rt.alloc(), lanes, 1).is_ok());
-    Ok(())
-}
-
-/// The lane of the last block, taken out.
-fn last_lane(lanes: &mut Lanes<MemLane>) -> Result<MemLane, Fail> {
-    if lanes.blocks() != 32 {
-        return Err("another count".into());
-    }
-    Ok(lanes.take(31).ok_or("no lane")?)
+    give(&rt, &mut lanes, lane);
+    let lanes = faulty(&rt, rt.alloc(), lanes, ImageFault::Device);
+    let _kernel = mounted(&rt, rt.alloc(), lanes, 1);
 }
 
 #[test]
-fn a_mount_reads_no_lane_whose_sync_fails(rt: HostRuntime) -> Result<(), Fail> {
-    let mut lanes = fresh_lanes(rt.alloc())?;
-    let mut lane = last_lane(&mut lanes)?;
+fn a_mount_reads_no_lane_whose_sync_fails(rt: HostRuntime) {
+    let mut lanes = fresh_lanes(&rt, rt.alloc());
+    let mut lane = take(&rt, &mut lanes, 31);
     lane.fail_sync();
     lane.fail_read();
-    assert!(rt; lanes.give(lane).is_ok());
-    let (fault, mut lanes) = faulty(&rt, rt.alloc(), lanes)?;
-    assert_eq!(rt; fault, ImageFault::Device);
-    assert!(rt; are_home(&lanes));
-    let mut lane = last_lane(&mut lanes)?;
-    assert_eq!(rt; lane.faults(), 1, "its sync failed, and it was not read");
-    assert_eq!(rt; lane.read(&mut [0; 512]), Err(DeviceFault));
-    assert!(rt; lanes.give(lane).is_ok());
-    assert!(rt; mount(&rt, rt.alloc(), lanes, 1).is_ok());
-    Ok(())
+    give(&rt, &mut lanes, lane);
+    let mut lanes = faulty(&rt, rt.alloc(), lanes, ImageFault::Device);
+    is(&rt, "all lanes", are_home(&lanes));
+    let mut lane = take(&rt, &mut lanes, 31);
+    is(
+        &rt,
+        "its sync failed, and it was not read",
+        lane.faults() == 1,
+    );
+    is(
+        &rt,
+        "a read that fails",
+        lane.read(&mut [0; 512]) == Err(DeviceFault),
+    );
+    give(&rt, &mut lanes, lane);
+    let _kernel = mounted(&rt, rt.alloc(), lanes, 1);
 }
 
 #[test]
-fn a_mount_settles_what_it_reads(rt: HostRuntime) -> Result<(), Fail> {
-    let mut lanes = fresh_lanes(rt.alloc())?;
-    let mut lane = last_lane(&mut lanes)?;
-    assert_eq!(rt; lane.write(&[9; 512]), Ok(()));
-    assert!(rt; lanes.give(lane).is_ok());
-    let Ok(kernel) = mount(&rt, rt.alloc(), lanes, 1) else {
-        return Err("no mount".into());
-    };
-    let mut lanes = kernel.into_lanes();
-    let mut lane = last_lane(&mut lanes)?;
+fn a_mount_settles_what_it_reads(rt: HostRuntime) {
+    let mut lanes = fresh_lanes(&rt, rt.alloc());
+    let mut lane = take(&rt, &mut lanes, 31);
+    is(&rt, "a write", lane.write(&[9; 512]) == Ok(()));
+    give(&rt, &mut lanes, lane);
+    let mut lanes = mounted(&rt, rt.alloc(), lanes, 1).into_lanes();
+    let mut lane = take(&rt, &mut lanes, 31);
     lane.crash(false);
-    assert_eq!(rt; lane.bytes()[511], 9);
-    Ok(())
+    is(&rt, "the byte that was written", lane.bytes()[511] == 9);
 }
 
 #[test]
-fn a_mount_that_cannot_read_a_lane_gives_all_back(rt: HostRuntime) -> Result<(), Fail> {
-    let lanes = failing_lanes(rt.alloc(), 5, Some(1), None)?;
-    let Err((fault, lanes)) = mount(&rt, rt.alloc(), lanes, 1) else {
-        return Err("a mount".into());
-    };
-    assert_eq!(rt; fault, ImageFault::Device);
-    assert!(rt; are_home(&lanes));
-    assert!(rt; mount(&rt, rt.alloc(), lanes, 1).is_ok());
-    Ok(())
+fn a_mount_that_cannot_read_a_lane_gives_all_back(rt: HostRuntime) {
+    let lanes = failing_lanes(&rt, rt.alloc(), 5, Some(1), None);
+    let lanes = faulty(&rt, rt.alloc(), lanes, ImageFault::Device);
+    is(&rt, "all lanes", are_home(&lanes));
+    let _kernel = mounted(&rt, rt.alloc(), lanes, 1);
 }

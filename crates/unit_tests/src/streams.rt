@@ -1,9 +1,9 @@
 // Standard streams that fail. All else that the line does is shown by transcripts.
 
+use crate::disks::is;
 use std::alloc::Global;
 use std::io;
 use std::io::{ErrorKind, Read, Write};
-use std::test::Fail;
 use system_files::{Access, Source};
 use xnsim_line::{Files, line};
 
@@ -39,69 +39,74 @@ impl Files for NoFiles {
     }
 }
 
-/// A stream that fails: at each read, at each flush, and at each write unless it holds back what is written.
-#[derive(Drop)]
-struct Broken {
-    holds_back: bool,
+/// What a stream fails at.
+#[derive(Clone, Copy)]
+enum Fails {
+    Nothing,
+    Reads,
+    /// Each write and each flush.
+    Writes,
+    Flushes,
 }
 
-impl Read for Broken {
-    fn read(&mut self, _buffer: &mut [u8]) -> io::Result<usize> {
-        Err(io::Error::from(ErrorKind::BrokenPipe))
+/// A stream of a text. What is written to it is let go.
+#[derive(Drop)]
+struct Stream {
+    text: &'static [u8],
+    fails: Fails,
+}
+
+impl Read for Stream {
+    fn read(&mut self, buffer: &mut [u8]) -> io::Result<usize> {
+        match self.fails {
+            Fails::Reads => Err(io::Error::from(ErrorKind::BrokenPipe)),
+            _ => self.text.read(buffer),
+        }
     }
 }
 
-impl Write for Broken {
+impl Write for Stream {
     fn write(&mut self, buffer: &[u8]) -> io::Result<usize> {
-        if self.holds_back {
-            Ok(buffer.len())
-        } else {
-            Err(io::Error::from(ErrorKind::BrokenPipe))
+        match self.fails {
+            Fails::Writes => Err(io::Error::from(ErrorKind::BrokenPipe)),
+            _ => Ok(buffer.len()),
         }
     }
 
     fn flush(&mut self) -> io::Result<()> {
-        Err(io::Error::from(ErrorKind::BrokenPipe))
+        match self.fails {
+            Fails::Writes | Fails::Flushes => Err(io::Error::from(ErrorKind::BrokenPipe)),
+            _ => Ok(()),
+        }
     }
 }
 
 #[test]
-fn tells_that_the_input_fails(rt: HostRuntime) -> Result<(), Fail> {
-    let alloc = rt.alloc();
-    let mut input = Broken { holds_back: false };
-    let (mut out, mut err) = (Vec::new(alloc), Vec::new(alloc));
-    let status = line(
-        &rt,
-        alloc,
-        &[],
-        &mut NoFiles,
-        &mut input,
-        &mut out,
-        &mut err,
-    );
-    assert_eq!(rt; status, 1);
-    assert_eq!(rt; err.as_slice(), b"cannot read -\n".as_slice());
-    Ok(())
-}
-
-#[test]
-fn has_status_1_where_the_output_fails(rt: HostRuntime) -> Result<(), Fail> {
-    let alloc = rt.alloc();
-    for holds_back in [false, true] {
-        let mut input = b"floor 0\n".as_slice();
-        let mut out = Broken { holds_back };
-        let mut err = Vec::new(alloc);
+fn has_status_1_where_a_stream_fails(rt: HostRuntime) {
+    for (read, written, told) in [
+        (Fails::Reads, Fails::Nothing, "cannot read -\n"),
+        (Fails::Nothing, Fails::Writes, ""),
+        (Fails::Nothing, Fails::Flushes, ""),
+    ] {
+        let mut input = Stream {
+            text: b"floor 0\n",
+            fails: read,
+        };
+        let mut out = Stream {
+            text: b"",
+            fails: written,
+        };
+        let mut err = Vec::new(rt.alloc());
         let status = line(
             &rt,
-            alloc,
+            rt.alloc(),
             &[],
             &mut NoFiles,
             &mut input,
             &mut out,
             &mut err,
         );
-        assert_eq!(rt; status, 1, "{holds_back}");
-        assert!(rt; err.is_empty(), "{holds_back}");
+        is(&rt, "status 1", status == 1);
+        is(&rt, "what is told", err.as_slice() == told.as_bytes());
     }
-    Ok(())
 }

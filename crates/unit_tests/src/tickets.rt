@@ -1,11 +1,10 @@
 // Tickets that come back: from kernels that didn't begin them, and where a written block isn't read back.
 
-use crate::disks::{fresh_lanes, fs};
+use crate::disks::{fresh_lanes, fs, is, mounted};
 use crate::kernel::drain;
-use crash_check::mount;
 use disk::MemLane;
 use std::alloc::{AllocError, Global};
-use std::test::Fail;
+use std::process::Abort;
 use std::thread::Threads;
 use xn_kernel::{Edit, Fs, Kernel, Landed, Patch, Refusal, Store, Ticket};
 
@@ -27,28 +26,17 @@ fn first_byte(alloc: Global, byte: u8) -> Result<Edit, AllocError> {
     })
 }
 
-/// Roots block 1, whose first byte is durable, and edits that byte: whether all this is done.
-fn is_edited(kernel: &mut Kernel<MemLane>, owner: Fs, byte: u8, edit: &Edit) -> bool {
-    kernel.init(owner, 2, &[byte; 512]).is_ok()
-        && kernel.make_root(owner, 1).is_ok()
-        && drain(kernel).1.is_none()
-        && kernel.propose(owner, 1, edit).is_ok()
-}
-
 /// A kernel with this number over a disk of its own, on which block 1 begins with this byte. An edit of it to 67 is pending.
-fn edited(
-    rt: &(impl Threads + Sync),
-    alloc: Global,
-    id: u64,
-    byte: u8,
-) -> Result<Kernel<MemLane>, Fail> {
-    let Ok(mut kernel) = mount(rt, alloc, fresh_lanes(alloc)?, id) else {
-        return Err("no mount".into());
-    };
-    if !is_edited(&mut kernel, fs(0)?, byte, &first_byte(alloc, 67)?) {
-        return Err("no edit".into());
-    }
-    Ok(kernel)
+fn edited<R: Threads + Abort + Sync>(rt: &R, alloc: Global, id: u64, byte: u8) -> Kernel<MemLane> {
+    let lanes = fresh_lanes(rt, alloc);
+    let mut kernel = mounted(rt, alloc, lanes, id);
+    let owner = fs(rt, 0);
+    let edit = first_byte(alloc, 67).expect(rt, "memory");
+    is(rt, "a block", kernel.init(owner, 2, &[byte; 512]).is_ok());
+    is(rt, "a root", kernel.make_root(owner, 1).is_ok());
+    is(rt, "a drain", drain(&mut kernel).1.is_none());
+    is(rt, "an edit", kernel.propose(owner, 1, &edit).is_ok());
+    kernel
 }
 
 /// Finishes a write that is to be refused: why it is, and the ticket as it comes back.
@@ -93,19 +81,21 @@ fn strayed_to_begun(
 }
 
 #[test]
-fn a_ticket_of_another_kernel_comes_back(rt: HostRuntime) -> Result<(), Fail> {
-    let want = Some((Refusal::NotMine, Some(ONE_DURABLE)));
+fn a_ticket_of_another_kernel_comes_back(rt: HostRuntime) {
     for (id, byte, is_begun) in [(2, 65, true), (1, 65, false), (1, 66, true)] {
-        let mut kernel = edited(&rt, rt.alloc(), 1, 65)?;
-        let mut other = edited(&rt, rt.alloc(), id, byte)?;
+        let mut kernel = edited(&rt, rt.alloc(), 1, 65);
+        let mut other = edited(&rt, rt.alloc(), id, byte);
         let told = if is_begun {
             strayed_to_begun(&mut kernel, &mut other)
         } else {
             strayed(&mut kernel, &mut other)
         };
-        assert!(rt; told == want, "kernel {id}, byte {byte}");
+        is(
+            &rt,
+            "a ticket",
+            told == Some((Refusal::NotMine, Some(ONE_DURABLE))),
+        );
     }
-    Ok(())
 }
 
 /// Why a write isn't finished that can't be read back, whether its lane stays away then, and what its next finish does.
@@ -120,9 +110,12 @@ fn read_at_last(kernel: &mut Kernel<MemLane>) -> Option<(Refusal, bool, Option<L
 }
 
 #[test]
-fn a_block_that_is_not_read_back_stays_in_flight(rt: HostRuntime) -> Result<(), Fail> {
-    let mut kernel = edited(&rt, rt.alloc(), 1, 65)?;
+fn a_block_that_is_not_read_back_stays_in_flight(rt: HostRuntime) {
+    let mut kernel = edited(&rt, rt.alloc(), 1, 65);
     let told = read_at_last(&mut kernel);
-    assert!(rt; told == Some((Refusal::Device, true, Some(ONE_DURABLE))));
-    Ok(())
+    is(
+        &rt,
+        "a block",
+        told == Some((Refusal::Device, true, Some(ONE_DURABLE))),
+    );
 }

@@ -1,13 +1,13 @@
 // A list of events, and an image that is read.
 
-use std::test::Fail;
+use crate::disks::{fs, is};
 use world::{Answer, Call, Event, Reply, World};
-use xn_kernel::{EditId, Fs, Refusal};
+use xn_kernel::{EditId, Refusal};
 
 #[test]
-fn events_of_a_list_are_run_in_their_order(rt: HostRuntime) -> Result<(), Fail> {
-    let owner = Fs::new(0).ok_or("no file system")?;
-    let mut world = World::format(&rt, rt.alloc(), 32, &[])?;
+fn events_of_a_list_are_run_in_their_order(rt: HostRuntime) {
+    let owner = fs(&rt, 0);
+    let mut world = World::format(&rt, rt.alloc(), 32, &[]).expect(&rt, "a world");
     let bytes = [0x41; 512];
     let events = [
         Event::Call(owner, Call::Init { ty: 2, bytes }),
@@ -17,7 +17,7 @@ fn events_of_a_list_are_run_in_their_order(rt: HostRuntime) -> Result<(), Fail> 
         Event::Call(owner, Call::Drain),
         Event::Crash(Vec::new(rt.alloc())),
     ];
-    let replies = world.run(&rt, &events)?;
+    let replies = world.run(&rt, &events).expect(&rt, "memory");
     let want = [
         Reply::Answered(Answer::Init(Ok((1, EditId(1))))),
         Reply::Answered(Answer::MakeRoot(Ok(EditId(2)))),
@@ -29,9 +29,9 @@ fn events_of_a_list_are_run_in_their_order(rt: HostRuntime) -> Result<(), Fail> 
             free: 30,
         },
     ];
-    assert!(rt; replies.as_slice() == want.as_slice());
-    let image = world.image()?;
-    assert_eq!(rt; image.len(), 16384);
-    assert!(rt; image.as_slice()[512..1024] == bytes[..]);
-    Ok(())
+    is(&rt, "the replies", replies.as_slice() == want.as_slice());
+    let image = world.image().expect(&rt, "memory");
+    is(&rt, "an image of 32 blocks", image.len() == 16384);
+    let block = image.as_slice().get(512..1024).unwrap_or(&[]);
+    is(&rt, "block 1", block == bytes.as_slice());
 }
