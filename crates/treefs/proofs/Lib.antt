@@ -1,1 +1,2 @@
 pub mod Remembering
+pub mod Dropping

@@ -1,22 +1,26 @@
 -- What the calls do that make an inode.
 --     new_fields            what a new inode says before its pointers
 --     NewDoes               a new inode gets its first name
+--     BeginDoes             an inode is begun
 --     CreateDoes, SymlinkDoes, MkdirDoes     what create, symlink and mkdir do
-use Rattle.std.specs.Prelude.{◌≡◌, ⊤, ℕ, ◌+◌, ◌-◌, ◌^◌, length, min, List, [], Result, Ok, Err, MatchResult}
+use Rattle.std.specs.Prelude.{◌≡◌, ⊤, ℕ, length, List, [], Result, Ok, Err, MatchResult}
 use Rattle.xn_model.specs.Types.{Types}
 use Rattle.xn_model.specs.Lives.{StoreState}
+use Rattle.xn_model.specs.PendingIn.{newest_entry_of}
 use Rattle.treefs_format.specs.Inodes.{inode_bytes, mode_of}
 use Rattle.treefs_format.specs.declared.fields.Fields.{Fields}
 use Rattle.treefs_format.specs.declared.kind.Kind.{Kind}
 use Rattle.treefs_format.specs.declared.kind.Kind.TheVariants as kind
 use Rattle.treefs_model.specs.declared.fault.Fault.{Fault}
-use Rattle.treefs_edits.specs.Memories.{Memory, with_touched}
+use Rattle.treefs_edits.specs.Memories.{Memory}
 use Rattle.treefs_edits.specs.declared.tree.Tree.{Tree}
 use Rattle.treefs_edits.specs.Plans.{DoesPlanned}
 use Rattle.treefs_name_plans.specs.NewPlans.{IsNewPlanned, new_plan}
+use Rattle.treefs_name_plans.specs.declared.naming.Naming.{Naming}
+use Rattle.treefs_name_plans.specs.declared.naming.Naming.TheVariants.{Added, Replaced}
 use Rattle.treefs_name_plans.specs.declared.new_plan.NewPlan.{NewPlan}
-use Rattle.treefs.specs.Linking.{record_entry}
-use Rattle.treefs.specs.Remembered.{now_times}
+use Rattle.treefs.specs.Committing.{BeginsInRoom, committed_memory, done_of}
+use Rattle.treefs.specs.Linking.{entry_or, record_entry}
 use Rattle.treefs.specs.Unlinking.{as_plan}
 use Rattle.treefs.specs.declared.attributes.Attributes.{Attributes}
 use Rattle.treefs.specs.declared.volume.Volume.{Volume}
@@ -39,23 +43,17 @@ new_fields tree memory kind attributes parent size = record {
   generation = attributes.generation;
 }
 
+-- a file or a symbolic link with these first bytes, which no name leads to yet
+abbrev pub BeginDoes : Types → StoreState → StoreState → Volume → Kind → Attributes → List ℕ → Result ℕ Fault → Type 0
+BeginDoes T state state' volume of attributes head result =
+    let inode = inode_bytes (new_fields volume.tree volume.memory of attributes 0 (length head)) head in
+    BeginsInRoom T volume.tree.fs.number (length volume.memory.touched) (record { ty = volume.tree.inode_type; bytes = inode }) state state' result
+
 -- Its name
-
--- whether it was done
-abbrev pub done_of : {A : Type 0} → Result A Fault → Result (Unit {0}) Fault
-done_of (Ok x) = Ok tt
-done_of (Err fault) = Err fault
-
--- the directory is touched, and the next number is looked for behind this one
-abbrev pub new_memory : Memory → ℕ → NewPlan → Memory
-new_memory memory directory plan = record memory {
-  touched = with_touched memory.touched directory (now_times memory);
-  hint = min (plan.number + 1) (2 ^ 32 - 1);
-}
 
 -- where it was not made, all is as it was
 abbrev pub new_volume : Volume → ℕ → Result NewPlan Fault → Volume
-new_volume volume directory (Ok plan) = record volume { memory = new_memory volume.memory directory plan }
+new_volume volume directory (Ok plan) = record volume { memory = committed_memory volume.memory directory plan.commit }
 new_volume volume directory (Err fault) = volume
 
 -- made: what was carried out
@@ -67,7 +65,7 @@ NewDoes T state state' volume volume' directory name inode made =
     × (volume' ≡ new_volume volume directory made)
 
 abbrev pub number_of : Result NewPlan Fault → Result ℕ Fault
-number_of (Ok plan) = Ok plan.number
+number_of (Ok plan) = Ok plan.commit.number
 number_of (Err fault) = Err fault
 
 abbrev pub CreateDoes : Types → StoreState → StoreState → Volume → Volume → ℕ → List ℕ → Attributes → Result ℕ Fault → Type 0
@@ -81,10 +79,19 @@ SymlinkDoes T state state' volume volume' directory name attributes target resul
     let inode = inode_bytes (new_fields volume.tree volume.memory kind.SymbolicLink attributes 0 (length target)) target in
     (made : Result NewPlan Fault) × NewDoes T state state' volume volume' directory name inode made × (result ≡ number_of made)
 
+-- the newest entry in the block of the record; a word where nothing is pending there
+abbrev pub naming_entry : StoreState → ℕ → ℕ → Naming → ℕ → ℕ
+naming_entry state fs directory (Added addition) word = record_entry state fs directory addition word
+naming_entry state fs directory (Replaced end) word = entry_or (newest_entry_of state end.block) word
+
 -- the record is the last directory's
 abbrev pub moved_volume : StoreState → Volume → Result NewPlan Fault → Volume
 moved_volume state volume (Ok plan) =
-    record volume { memory = record volume.memory { last_dir = record_entry state volume.tree.fs.number plan.directory plan.addition volume.memory.last_dir } }
+    record volume {
+      memory = record volume.memory {
+        last_dir = naming_entry state volume.tree.fs.number plan.commit.directory plan.commit.naming volume.memory.last_dir;
+      };
+    }
 moved_volume state volume (Err fault) = volume
 
 abbrev pub MkdirDoes : Types → StoreState → StoreState → Volume → Volume → ℕ → List ℕ → Attributes → Result ℕ Fault → Type 0

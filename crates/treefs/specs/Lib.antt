@@ -1,4 +1,12 @@
+pub mod Changed
+pub mod Committing
 pub mod Creating
 pub mod Linking
+pub mod Reads
 pub mod Remembered
+pub mod Renaming
+pub mod Setting
+pub mod Sizing
+pub mod Trimming
 pub mod Unlinking
+pub mod Writing

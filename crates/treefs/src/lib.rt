@@ -4,6 +4,7 @@
 
 mod attributes;
 mod memory;
+mod trimming;
 mod volume;
 
 pub use attributes::Attributes;

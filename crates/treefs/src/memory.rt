@@ -1,17 +1,21 @@
 // What a session remembers once a call is done.
 
-ghost use Rattle.std.specs.Prelude.{◌≡◌, ◌<◌, ◌≤◌, vec_capacity, vec_len};
+ghost use Rattle.std.specs.Prelude.{◌≡◌, ◌+◌, ◌<◌, ◌≤◌, vec_capacity, vec_len};
+ghost use Rattle.xn_model.specs.PendingIn.{newest_entry_of};
 ghost use Rattle.treefs_edits.specs.Memories.{with_touched, without_touched};
 ghost use Rattle.treefs_lookup.specs.Readable.{readable};
-ghost use Rattle.treefs.specs.Linking.{record_block, record_entry};
-ghost use Rattle.treefs.specs.Remembered.{ended_orphans, ended_touched, now_times, written_times};
+ghost use Rattle.treefs.specs.Changed.{changed_touched};
+ghost use Rattle.treefs.specs.Creating.{naming_entry};
+ghost use Rattle.treefs.specs.Linking.{entry_or, record_block, record_entry};
+ghost use Rattle.treefs.specs.Remembered.{ended_orphans, ended_touched, named_orphans, named_touched, now_times, written_times};
+ghost use Rattle.treefs.specs.Renaming.{moved_entry, moving_touched, renamed_touched};
 
 use edit_list::Fs;
 use treefs_edits::memory::{forget_touch, touch};
 use treefs_edits::{Memory, Times, Touched};
 use treefs_format::paths::LEAVES;
 use treefs_lookup::leaf_block;
-use treefs_name_plans::{Addition, EndPlan};
+use treefs_name_plans::{Addition, Moving, NameEnd, Naming, RenamePlan};
 use xn_state::Store;
 
 /// The times of an inode that changes now.
@@ -21,6 +25,18 @@ pub fn now_times(memory: &Memory) -> Times
     Times {
         mtime: memory.clock,
         ctime: memory.clock,
+    }
+}
+
+/// An inode was changed: its times are written, or it is touched now.
+pub fn note_change(touched: &mut Vec<Touched>, now: Times, number: u32, is_dated: bool)
+    requires { vec_len touched.old < vec_capacity touched.old }
+    ensures { touched.new.items ≡ changed_touched touched.old.items now number is_dated }
+{
+    if is_dated {
+        forget_touch(touched, number);
+    } else {
+        touch(touched, number, now);
     }
 }
 
@@ -36,21 +52,94 @@ fn forget_written(touched: &mut Vec<Touched>, number: u32, times: Option<Times>)
 }
 
 /// A name of a directory ended: the directory is touched now, and the inode's times may have been written.
-pub fn touch_end(touched: &mut Vec<Touched>, now: Times, directory: u32, plan: &EndPlan)
+pub fn touch_end(touched: &mut Vec<Touched>, now: Times, directory: u32, end: &NameEnd)
     requires { vec_len touched.old < vec_capacity touched.old }
-    ensures { touched.new.items ≡ ended_touched touched.old.items now directory plan.now }
+    ensures { touched.new.items ≡ ended_touched touched.old.items now directory end.now }
 {
-    forget_written(touched, plan.number, plan.fewer.times);
+    forget_written(touched, end.number, end.fewer.times);
     touch(touched, directory, now);
 }
 
 /// An inode whose last name ended is an orphan.
-pub fn note_orphan(orphans: &mut Vec<u32>, plan: &EndPlan)
+pub fn note_orphan(orphans: &mut Vec<u32>, end: &NameEnd)
     requires { vec_len orphans.old < vec_capacity orphans.old }
-    ensures { orphans.new.items ≡ ended_orphans orphans.old.items plan.now }
+    ensures { orphans.new.items ≡ ended_orphans orphans.old.items end.now }
 {
-    if plan.fewer.links == 0 {
-        orphans.push(plan.number).unwrap();
+    if end.fewer.links == 0 {
+        orphans.push(end.number).unwrap();
+    }
+}
+
+/// A name came to lead to an inode: the times of what it replaced may have been written.
+fn forget_replaced(touched: &mut Vec<Touched>, naming: &Naming)
+    ensures touched { touched.new.items ≡ named_touched touched.old.items naming.now }
+    ensures length { vec_len touched.new ≤ vec_len touched.old }
+    ensures capacity { vec_capacity touched.new ≡ vec_capacity touched.old }
+{
+    match naming {
+        Naming::Added(_) => {}
+        Naming::Replaced(end) => forget_written(touched, end.number, end.fewer.times),
+    }
+}
+
+/// A name of a directory came to lead to an inode: the directory is touched now.
+pub fn touch_naming(touched: &mut Vec<Touched>, now: Times, directory: u32, naming: &Naming)
+    requires { vec_len touched.old < vec_capacity touched.old }
+    ensures { touched.new.items ≡ with_touched (named_touched touched.old.items naming.now) directory now }
+{
+    forget_replaced(touched, naming);
+    touch(touched, directory, now);
+}
+
+/// What a name that came to lead to an inode replaced is an orphan where that was its last name.
+pub fn note_replaced(orphans: &mut Vec<u32>, naming: &Naming)
+    requires { vec_len orphans.old < vec_capacity orphans.old }
+    ensures { orphans.new.items ≡ named_orphans orphans.old.items naming.now }
+{
+    match naming {
+        Naming::Added(_) => {}
+        Naming::Replaced(end) => note_orphan(orphans, end),
+    }
+}
+
+/// The times of an inode whose name moved: no edit writes them where it was one edit, and else they are written.
+fn touch_moved(touched: &mut Vec<Touched>, number: u32, moving: &Moving)
+    requires { vec_len touched.old < vec_capacity touched.old }
+    ensures touched { touched.new.items ≡ moving_touched touched.old.items number moving.now }
+    ensures length { vec_len touched.new ≤ vec_len touched.old + 1 }
+    ensures capacity { vec_capacity touched.old ≤ vec_capacity touched.new }
+{
+    match moving {
+        Moving::Together(times) => touch(touched, number, *times),
+        Moving::Apart(_) => forget_touch(touched, number),
+    }
+}
+
+/// A name moved: the inode's times and those of what was replaced may have been written, and both directories are touched now.
+pub fn touch_rename(
+    touched: &mut Vec<Touched>,
+    now: Times,
+    directory: u32,
+    new_directory: u32,
+    plan: &RenamePlan,
+)
+    requires { vec_len touched.old + 3 ≤ vec_capacity touched.old }
+    ensures { touched.new.items ≡ renamed_touched touched.old.items now directory new_directory plan.now }
+{
+    touch_moved(touched, plan.number, &plan.moving);
+    forget_replaced(touched, &plan.naming);
+    touch(touched, directory, now);
+    touch(touched, new_directory, now);
+}
+
+/// The number of the edit that ended the old name of a directory; a word where it is no directory, or nothing is pending there.
+pub fn moved_entry<S: Store>(store: &S, plan: &RenamePlan, word: u64) -> u64
+    ensures { result ≡ moved_entry (S.state_of store.now) plan.now word }
+{
+    if plan.is_directory {
+        entry_or(store, plan.block, word)
+    } else {
+        word
     }
 }
 
@@ -90,7 +179,25 @@ pub fn record_entry<S: Store>(
 ) -> u64
     ensures { result ≡ record_entry (S.state_of store.now) fs.number directory addition.now word }
 {
-    match store.newest_entry(record_block(store, fs, directory, addition)) {
+    entry_or(store, record_block(store, fs, directory, addition), word)
+}
+
+/// The number of the newest entry in the block of a record by which a name of a directory, whose inode block is told, came to lead to an inode; a
+/// word where nothing is pending there.
+pub fn naming_entry<S: Store>(store: &S, fs: Fs, directory: u32, naming: &Naming, word: u64) -> u64
+    ensures { result ≡ naming_entry (S.state_of store.now) fs.number directory naming.now word }
+{
+    match naming {
+        Naming::Added(addition) => record_entry(store, fs, directory, addition, word),
+        Naming::Replaced(end) => entry_or(store, end.block, word),
+    }
+}
+
+/// The number of the newest entry in a block; a word where nothing is pending there.
+fn entry_or<S: Store>(store: &S, block: u32, word: u64) -> u64
+    ensures { result ≡ entry_or (newest_entry_of (S.state_of store.now) block) word }
+{
+    match store.newest_entry(block) {
         Some(entry) => entry.number(),
         None => word,
     }

@@ -2,8 +2,13 @@
 
 use treefs_edits::{Memory, Tree};
 
+mod bytes;
+mod committing;
 mod creating;
 mod names;
+mod reads;
+mod renaming;
+mod setting;
 
 /// A volume of a store, with what its session keeps in memory.
 #[derive(Debug, Drop)]

@@ -1,3 +1,4 @@
 pub mod CutPlaces
 pub mod DroppedBlocks
 pub mod RootPointers
+pub mod MissingLeaves

@@ -1,4 +1,7 @@
 pub mod Attributes
+pub mod Fields
+pub mod Kept
+pub mod Runs
 pub mod Writes
 pub mod Sizes
 pub mod Cuts

@@ -9,7 +9,7 @@ use Rattle.treefs_format.specs.Paths.{first_leaf, leaf_offset, tree_offset}
 use Rattle.treefs_model.specs.Acts.{Act}
 use Rattle.treefs_model.specs.Reading.{pointed}
 use Rattle.treefs_edits.specs.Plans.{Plan}
-use Rattle.treefs_byte_plans.specs.Writes.{bytes_patch}
+use Rattle.treefs_byte_plans.specs.Fields.{bytes_patch}
 use Rattle.treefs_byte_plans.specs.declared.roots_plan.Pointer.{Pointer}
 use Rattle.treefs_byte_plans.specs.declared.roots_plan.RootsPlan.{RootsPlan}
 

@@ -1,5 +1,6 @@
 // Pieces of writes: bytes that stand together, in the inode or in a leaf.
 
+use crate::run_plan::RunPlan;
 use treefs_edits::Times;
 
 /// Bytes of a content that stand in the inode are written, by one edit.
@@ -39,12 +40,10 @@ pub struct LeafPlan<'a> {
 pub enum WriteStep<'a> {
     /// There are no bytes.
     Nothing,
-    /// The size would rise, and something stands past it: that is trimmed first.
-    Trim,
-    /// The first leaf is missing: this one.
-    Missing(u32),
     /// Bytes in the inode.
     Content(ContentPlan<'a>),
-    /// Bytes in a leaf.
+    /// Bytes in a leaf that is there.
     Leaf(LeafPlan<'a>),
+    /// A run of leaves that are missing.
+    Run(RunPlan),
 }

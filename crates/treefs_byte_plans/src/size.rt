@@ -1,5 +1,6 @@
 // The size of a file or a symbolic link is set.
 
+use crate::kept::Kept;
 use treefs_edits::Times;
 
 /// The size of a file or a symbolic link is set, by one edit.
@@ -13,13 +14,6 @@ pub struct SizePlan {
     pub times: Times,
     /// The byte of the block from which on all are 0 from then on, where the size falls and bytes are there.
     pub blank_from: Option<u16>,
-}
-
-/// What comes next where a size is set.
-#[derive(Clone, Copy, Debug)]
-pub enum TruncateStep {
-    /// Something stands past the old size: that is trimmed first.
-    Trim,
-    /// The size is set. Where it falls, what stands past it is trimmed then.
-    Size(SizePlan),
+    /// What is kept then, where the size falls: all else is trimmed.
+    pub trimmed_then: Option<Kept>,
 }

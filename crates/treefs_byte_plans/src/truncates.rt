@@ -1,18 +1,22 @@
 // How a size is set.
 
 ghost use Rattle.std.specs.Prelude.{◌≡◌, ◌++◌, IfOk};
-ghost use Rattle.treefs_byte_plans.specs.Sizes.{IsTruncatePlanned, blank_from, changed_size, has_bytes_behind, most_edits, size_in_room, size_plan, zero_parts};
+ghost use Rattle.treefs_byte_plans.specs.Kept.{HasFewLeaves};
+ghost use Rattle.treefs_byte_plans.specs.Sizes.{IsTrimToTruncate, blank_from, changed_size, has_bytes_behind, most_edits, size_in_room, size_plan};
+ghost use Rattle.treefs_byte_plans.specs.Sizes.{trimmed_then, truncate_planned, truncated_file, zero_parts};
 ghost use Rattle.treefs_lookup.specs.Readable.{readable};
 
+use crate::fields::{push_size, times_now};
+use crate::keeping::{find_untrimmed, kept_up_to};
+use crate::kept::Kept;
 use crate::patches::patch_act;
-use crate::size::{SizePlan, TruncateStep};
-use crate::writes::{push_size, times_now};
+use crate::size::SizePlan;
 use edit_list::Patch;
 use std::alloc::{AllocError, Global};
 use treefs_edits::{Act, Memory, Planned, Start, Tree, has_room};
 use treefs_format::inodes::{CONTENT, CONTENT_LEN};
 use treefs_format::sizes::GREATEST_SIZE;
-use treefs_lookup::{Found, find_file, is_blank_past, is_trimmed};
+use treefs_lookup::{Found, find_file, is_blank_past};
 use treefs_model::Fault;
 use xn_state::Store;
 
@@ -82,51 +86,77 @@ fn most_edits(file: &Found, size: u64) -> u32
     if size < file.fields.size { 12 } else { 1 }
 }
 
-/// What setting the size of a trimmed file takes, where there is room; else the fault is `Full`.
+/// What is kept once a size is set, where it falls.
+fn trimmed_then(file: &Found, size: u64) -> Option<Kept>
+    ensures kept { result ≡ trimmed_then file.now size }
+    ensures few { HasFewLeaves result }
+{
+    if size < file.fields.size {
+        Some(kept_up_to(file.block, size))
+    } else {
+        None
+    }
+}
+
+/// What setting the size of a file takes, where there is room; else the fault is `Full`.
 fn plan_size<S: Store>(
     store: &S,
     tree: Tree,
     memory: &Memory,
-    file: &Found,
     size: u64,
-) -> Result<TruncateStep, Fault>
-    ensures { result ≡ size_in_room (S.state_of store.now) tree.fs.number memory.now file.now size }
+    file: &Found,
+) -> Result<SizePlan, Fault>
+    ensures planned { result ≡ size_in_room (S.state_of store.now) tree.fs.number memory.now size file.now }
+    ensures few { IfOk result (λ plan. HasFewLeaves plan.trimmed_then) }
 {
     let edits = most_edits(file, size);
-    if !has_room(
-        store,
-        tree.fs,
-        memory.touched.len(),
-        edits,
-        &[(file.block, edits)],
-    ) {
+    let parts = [(file.block, edits)];
+    if !has_room(store, tree.fs, memory.touched.len(), edits, &parts) {
         return Err(Fault::Full);
     }
-    Ok(TruncateStep::Size(SizePlan {
+    Ok(SizePlan {
         block: file.block,
         size: changed_size(file.fields.size, size),
         times: times_now(memory),
         blank_from: blank_from(store, tree, file, size),
-    }))
+        trimmed_then: trimmed_then(file, size),
+    })
 }
 
-/// What setting the size of a file or a symbolic link takes. The faults are `NoEntry`, `IsDir`, `TooLarge` above the greatest size, and `Full` where there
-/// is no room.
+/// The file or symbolic link that may have a size. The faults are `NoEntry`, `IsDir`, and `TooLarge` above the greatest size.
+fn find_truncated<S: Store>(store: &S, tree: Tree, number: u32, size: u64) -> Result<Found, Fault>
+    ensures { result ≡ truncated_file (readable (S.state_of store.now) tree.fs.number) tree.top number size }
+{
+    let file = find_file(store, tree.fs, tree.top, number)?;
+    if size > GREATEST_SIZE {
+        return Err(Fault::TooLarge);
+    }
+    Ok(file)
+}
+
+/// What setting the size of a file or a symbolic link takes, past whose size nothing stands. The faults are `NoEntry`, `IsDir`, `TooLarge` above the greatest
+/// size, and `Full` where there is no room.
 pub fn plan_truncate<S: Store>(
     store: &S,
     tree: Tree,
     memory: &Memory,
     number: u32,
     size: u64,
-) -> Result<TruncateStep, Fault>
-    ensures { IsTruncatePlanned (S.state_of store.now) tree memory.now number size result }
+) -> Result<SizePlan, Fault>
+    ensures planned { result ≡ truncate_planned (S.state_of store.now) tree memory.now number size }
+    ensures few { IfOk result (λ plan. HasFewLeaves plan.trimmed_then) }
 {
-    let file = find_file(store, tree.fs, tree.top, number)?;
-    if size > GREATEST_SIZE {
-        return Err(Fault::TooLarge);
+    let file = find_truncated(store, tree, number, size)?;
+    plan_size(store, tree, memory, size, &file)
+}
+
+/// What is trimmed before the size of a file or a symbolic link is set: all past its size, where something stands there.
+pub fn trim_to_truncate<S: Store>(store: &S, tree: Tree, number: u32, size: u64) -> Option<Kept>
+    ensures kept { IsTrimToTruncate (readable (S.state_of store.now) tree.fs.number) tree.top number size result }
+    ensures few { HasFewLeaves result }
+{
+    match find_truncated(store, tree, number, size) {
+        Ok(file) => find_untrimmed(store, tree.fs, &file),
+        Err(_) => None,
     }
-    if !is_trimmed(store, tree.fs, &file) {
-        return Ok(TruncateStep::Trim);
-    }
-    plan_size(store, tree, memory, &file, size)
 }

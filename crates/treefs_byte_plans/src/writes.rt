@@ -1,23 +1,26 @@
 // How a piece of a write is planned.
 
-ghost use Rattle.std.specs.Prelude.{◌≡◌, ◌+◌, ◌<◌, ◌≤◌, ◌∷◌, ◌++◌, [], length, take, IfOk, Some};
-ghost use Rattle.std.specs.Bool.{MatchBool};
-ghost use Rattle.treefs_byte_plans.specs.Writes.{IsWritePlanned, NeedsTrim, bytes_patch, content_in_room, content_plan, leaf_in_room};
-ghost use Rattle.treefs_byte_plans.specs.Writes.{leaf_plan, piece_step, planned_step, risen, size_acts, size_changes, times_now};
-ghost use Rattle.treefs_format.specs.Fields.{changes_patch};
+ghost use Rattle.std.specs.Prelude.{◌≡◌, ◌/◌, ◌<◌, ◌∷◌, ◌++◌, [], IfOk, Some};
+ghost use Rattle.treefs_byte_plans.specs.Fields.{bytes_patch};
+ghost use Rattle.treefs_byte_plans.specs.Kept.{HasFewLeaves};
+ghost use Rattle.treefs_byte_plans.specs.Writes.{IsTrimToWrite, IsWithin, content_in_room, content_plan, first_piece, leaf_in_room};
+ghost use Rattle.treefs_byte_plans.specs.Writes.{leaf_plan, leaves_step, piece_step, planned_step, raises, write_planned, written_file};
 ghost use Rattle.treefs_format.specs.Leaves.{greatest_size};
-ghost use Rattle.treefs_lookup.specs.Bytes.{part_left};
 ghost use Rattle.treefs_lookup.specs.Readable.{readable};
+ghost use Rattle.treefs_model.specs.Reading.{leaf_block};
 
-use crate::patches::{patch_act, push_changes, push_times};
+use crate::fields::{push_size, raise_size, risen, times_now};
+use crate::keeping::find_untrimmed;
+use crate::kept::Kept;
+use crate::patches::patch_act;
 use crate::piece::{ContentPlan, LeafPlan, WriteStep};
+use crate::runs::plan_run;
 use edit_list::Patch;
 use std::alloc::{AllocError, Global};
-use treefs_edits::{Act, Memory, Planned, Start, Times, Tree, has_room, kinds};
-use treefs_format::Change;
+use treefs_edits::{Act, Memory, Planned, Start, Tree, has_room, kinds};
 use treefs_format::inodes::{CONTENT, CONTENT_LEN};
 use treefs_format::sizes::GREATEST_SIZE;
-use treefs_lookup::{Found, find_file, is_trimmed, leaf_block, part_left};
+use treefs_lookup::{Found, find_file, leaf_block, part_left};
 use treefs_model::Fault;
 use xn_state::Store;
 
@@ -70,81 +73,6 @@ fn push_bytes(
     Ok(())
 }
 
-/// Adds the patch of an inode's times, and of its size where that changes.
-pub(crate) fn push_size(
-    alloc: Global,
-    patches: &mut Vec<Patch>,
-    size: Option<u64>,
-    times: Times,
-) -> Result<(), AllocError>
-    ensures { IfOk result (λ _. patches.new.items ≡ patches.old.items ++ changes_patch (size_changes size times) ∷ []) }
-{
-    match size {
-        Some(size) => push_new_size(alloc, patches, size, times),
-        None => push_times(alloc, patches, times),
-    }
-}
-
-/// Adds the patch of an inode's size and times.
-fn push_new_size(
-    alloc: Global,
-    patches: &mut Vec<Patch>,
-    size: u64,
-    times: Times,
-) -> Result<(), AllocError>
-    ensures { IfOk result (λ _. patches.new.items ≡ patches.old.items ++ changes_patch (size_changes (Some size) times) ∷ []) }
-{
-    let changes = [
-        Change::Size(size),
-        Change::Mtime(times.mtime),
-        Change::Ctime(times.ctime),
-    ];
-    push_changes(alloc, patches, &changes)
-}
-
-/// The size of an inode rises, and its times change, behind all of a leaf.
-fn raise_size(
-    alloc: Global,
-    inode: u32,
-    size: u64,
-    times: Times,
-    leaf: u32,
-) -> Result<Act, AllocError>
-    ensures { IfOk result (λ act. size_acts inode leaf (Some size) times ≡ act ∷ []) }
-{
-    let changes = [
-        Change::Size(size),
-        Change::Mtime(times.mtime),
-        Change::Ctime(times.ctime),
-    ];
-    kinds::change_fields(alloc, inode, &changes, Some(leaf))
-}
-
-/// The caller's time, twice.
-pub(crate) fn times_now(memory: &Memory) -> Times
-    ensures { result ≡ times_now memory.now }
-{
-    Times {
-        mtime: memory.clock,
-        ctime: memory.clock,
-    }
-}
-
-/// The size that a write up to an end leaves, where that rises.
-fn risen(size: u64, end: u64) -> Option<u64>
-    ensures { result ≡ risen size end }
-{
-    if size < end { Some(end) } else { None }
-}
-
-/// Whether the size of a file rises up to an end, and something stands past it.
-fn needs_trim<S: Store>(store: &S, tree: Tree, file: &Found, end: u64) -> bool
-    ensures { MatchBool result (NeedsTrim (readable (S.state_of store.now) tree.fs.number) file.now end)
-        (NeedsTrim (readable (S.state_of store.now) tree.fs.number) file.now end → ⊥) }
-{
-    file.fields.size < end && !is_trimmed(store, tree.fs, file)
-}
-
 /// What a piece in the inode takes, where there is room; else the fault is `Full`.
 fn plan_content<'a, S: Store>(
     store: &S,
@@ -155,7 +83,8 @@ fn plan_content<'a, S: Store>(
     bytes: &'a [u8],
 ) -> Result<WriteStep<'a>, Fault>
     requires low { at < 384 }
-    ensures { planned_step result ≡ content_in_room (S.state_of store.now) tree.fs.number memory.now file.now at bytes.now }
+    ensures planned { planned_step result ≡ content_in_room (S.state_of store.now) tree.fs.number memory.now file.now at bytes.now }
+    ensures within { IfOk result IsWithin }
 {
     if !has_room(store, tree.fs, memory.touched.len(), 1, &[(file.block, 1)]) {
         return Err(Fault::Full);
@@ -169,7 +98,7 @@ fn plan_content<'a, S: Store>(
     }))
 }
 
-/// What a piece in a leaf takes, where the leaf is there and has room; the fault is `Full`.
+/// What a piece in a leaf that is there takes, where there is room; else the fault is `Full`.
 fn plan_leaf<'a, S: Store>(
     store: &S,
     tree: Tree,
@@ -180,11 +109,9 @@ fn plan_leaf<'a, S: Store>(
     bytes: &'a [u8],
 ) -> Result<WriteStep<'a>, Fault>
     requires low { at < greatest_size }
-    ensures { planned_step result ≡ leaf_in_room (S.state_of store.now) tree.fs.number memory.now file.now leaf at bytes.now }
+    ensures planned { planned_step result ≡ leaf_in_room (S.state_of store.now) tree.fs.number memory.now file.now leaf at bytes.now }
+    ensures within { IfOk result IsWithin }
 {
-    if leaf == 0 {
-        return Ok(WriteStep::Missing((at / 512) as u32));
-    }
     let parts = [(leaf, 1), (file.block, 1)];
     if !has_room(store, tree.fs, memory.touched.len(), 2, &parts) {
         return Err(Fault::Full);
@@ -199,7 +126,31 @@ fn plan_leaf<'a, S: Store>(
     }))
 }
 
-/// What the bytes of a piece take.
+/// What bytes past those in the inode take: a piece in a leaf, or a run of leaves where the first one is missing.
+fn plan_leaves<'a, S: Store>(
+    store: &S,
+    tree: Tree,
+    memory: &Memory,
+    file: &Found,
+    at: u64,
+    bytes: &'a [u8],
+) -> Result<WriteStep<'a>, Fault>
+    requires low { at < greatest_size }
+    ensures planned { planned_step result ≡ leaves_step (S.state_of store.now) tree memory.now file.now
+        (leaf_block (readable (S.state_of store.now) tree.fs.number) file.now.block (at / 512)) at bytes.now }
+    ensures within { IfOk result IsWithin }
+{
+    let leaf = leaf_block(store, tree.fs, file.block, (at / 512) as u32);
+    if leaf == 0 {
+        return match plan_run(store, tree, memory, file, at, bytes.len()) {
+            Ok(plan) => Ok(WriteStep::Run(plan)),
+            Err(fault) => Err(fault),
+        };
+    }
+    plan_leaf(store, tree, memory, file, leaf, at, first_piece(at, bytes))
+}
+
+/// What the next of some bytes take.
 fn plan_piece<'a, S: Store>(
     store: &S,
     tree: Tree,
@@ -209,25 +160,44 @@ fn plan_piece<'a, S: Store>(
     bytes: &'a [u8],
 ) -> Result<WriteStep<'a>, Fault>
     requires low { at < greatest_size }
-    ensures { planned_step result ≡ piece_step (S.state_of store.now) tree.fs.number memory.now file.now at bytes.now }
+    ensures planned { planned_step result ≡ piece_step (S.state_of store.now) tree memory.now file.now at bytes.now }
+    ensures within { IfOk result IsWithin }
 {
     if at < CONTENT_LEN as u64 {
-        return plan_content(store, tree, memory, file, at, bytes);
+        return plan_content(store, tree, memory, file, at, first_piece(at, bytes));
     }
-    let leaf = leaf_block(store, tree.fs, file.block, (at / 512) as u32);
-    plan_leaf(store, tree, memory, file, leaf, at, bytes)
+    plan_leaves(store, tree, memory, file, at, bytes)
 }
 
 /// Of some bytes those that stand together with the first of them.
 fn first_piece(at: u64, bytes: &[u8]) -> &[u8]
-    ensures { result.now ≡ take (part_left at) bytes.now }
+    ensures { result.now ≡ first_piece at bytes.now }
 {
     let length = bytes.len().min(part_left(at) as usize);
     &bytes[..length]
 }
 
-/// What the next piece of a write of bytes takes, from a byte of a file or a symbolic link on: those that stand together with the first of them. The
-/// faults are `NoEntry`, `IsDir`, `TooLarge` at or past the greatest size, and `Full` where there is no room.
+/// Whether the size of a file rises with so many bytes from one on.
+fn raises(at: u64, count: usize, file: &Found) -> bool
+    ensures { result ≡ raises at count file.now }
+{
+    count as u64 > file.fields.size.saturating_sub(at)
+}
+
+/// The file or symbolic link in which bytes from one on may be written. The faults are `NoEntry`, `IsDir`, and `TooLarge` at or past the greatest size.
+fn find_written<S: Store>(store: &S, tree: Tree, number: u32, at: u64) -> Result<Found, Fault>
+    ensures { result ≡ written_file (readable (S.state_of store.now) tree.fs.number) tree.top number at }
+{
+    let file = find_file(store, tree.fs, tree.top, number)?;
+    if at >= GREATEST_SIZE {
+        return Err(Fault::TooLarge);
+    }
+    Ok(file)
+}
+
+/// What the next piece of a write of bytes takes, from a byte of a file or a symbolic link on: those that stand together with the first of them, or as many
+/// as the leaves take that are missing from there on. The faults are `NoEntry`, `IsDir`, `TooLarge` at or past the greatest size, and `Full` where there is
+/// no room. Where the size rises nothing may stand past it.
 pub fn plan_write<'a, S: Store>(
     store: &S,
     tree: Tree,
@@ -236,18 +206,30 @@ pub fn plan_write<'a, S: Store>(
     at: u64,
     bytes: &'a [u8],
 ) -> Result<WriteStep<'a>, Fault>
-    ensures { IsWritePlanned (S.state_of store.now) tree memory.now number at bytes.now (planned_step result) }
+    ensures planned { planned_step result ≡ write_planned (S.state_of store.now) tree memory.now number at bytes.now }
+    ensures within { IfOk result IsWithin }
 {
-    let file = find_file(store, tree.fs, tree.top, number)?;
-    if at >= GREATEST_SIZE {
-        return Err(Fault::TooLarge);
-    }
+    let file = find_written(store, tree, number, at)?;
     if bytes.is_empty() {
         return Ok(WriteStep::Nothing);
     }
-    let piece = first_piece(at, bytes);
-    if needs_trim(store, tree, &file, at + piece.len() as u64) {
-        return Ok(WriteStep::Trim);
+    plan_piece(store, tree, memory, &file, at, bytes)
+}
+
+/// What is trimmed before so many bytes are written from a byte on: all past the size of the file or symbolic link, where the size rises and something
+/// stands there.
+pub fn trim_to_write<S: Store>(
+    store: &S,
+    tree: Tree,
+    number: u32,
+    at: u64,
+    count: usize,
+) -> Option<Kept>
+    ensures kept { IsTrimToWrite (readable (S.state_of store.now) tree.fs.number) tree.top number at count result }
+    ensures few { HasFewLeaves result }
+{
+    match find_written(store, tree, number, at) {
+        Ok(file) if raises(at, count, &file) => find_untrimmed(store, tree.fs, &file),
+        Ok(_) | Err(_) => None,
     }
-    plan_piece(store, tree, memory, &file, at, piece)
 }

@@ -1,9 +1,11 @@
 // What a call asks of its store, one edit after another.
 
-ghost use Rattle.std.specs.Prelude.{◌≡◌};
+ghost use Rattle.std.specs.Prelude.{◌≡◌, IfOk};
+ghost use Rattle.treefs_edits.specs.Kinds.{with_patch};
 ghost use Rattle.treefs_model.specs.Acts.{Made, behind_of};
 
-use edit_list::{Edit, EditId, Fs};
+use edit_list::{Edit, EditId, Fs, Patch};
+use std::alloc::AllocError;
 use std::marker::Model;
 use xn_model::Refusal;
 use xn_state::Store;
@@ -51,6 +53,23 @@ impl Act {
         } = self;
         edit.after = newest_entry(store, behind);
         store.propose(fs, block, &edit)
+    }
+
+    /// With one more patch. `Err` comes only for want of memory.
+    pub fn with_patch(self, patch: Patch) -> Result<Act, AllocError>
+        ensures { IfOk result (λ act. act ≡ with_patch self patch) }
+    {
+        let Act {
+            block,
+            mut edit,
+            behind,
+        } = self;
+        edit.patches.push(patch)?;
+        Ok(Act {
+            block,
+            edit,
+            behind,
+        })
     }
 }
 

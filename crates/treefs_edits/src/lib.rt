@@ -4,9 +4,12 @@
 #![tactic(auto)]
 
 mod act;
+pub mod fronts;
 pub mod kinds;
 pub mod law;
 pub mod memory;
+pub mod missing;
+pub mod nodes;
 mod plan;
 mod room;
 mod runs;
@@ -19,6 +22,6 @@ pub use memory::{Memory, Touched};
 pub use plan::{Planned, carry_out};
 pub use room::{has_room, have_room};
 pub use runs::run;
-pub use start::{Start, begin_all, forget_all, lacks_memory};
+pub use start::{Start, begin_all, forget_all, lacks_memory, start_fault};
 pub use times::Times;
 pub use tree::Tree;

@@ -19,7 +19,7 @@ pub struct Start {
 }
 
 /// Why a block is not begun: `NoSpace` where no block is free, else the kernel's refusal.
-fn start_fault(reason: Refusal) -> Fault
+pub fn start_fault(reason: Refusal) -> Fault
     ensures { result ≡ start_fault reason }
 {
     match reason {

@@ -1,5 +1,5 @@
 -- Leaves of inode 0 that can be given, and those whose pointers stand beside theirs.
-use Rattle.std.proofs.Common.{◌≡◌, ℕ, ◌+◌, ◌-◌, ◌<◌, ◌≤◌, Bool, List, sym, ◌∙◌, ap, inl, inr, arith, subst, if◌then◌else◌, eq-eqb}
+use Rattle.std.proofs.Common.{◌≡◌, ℕ, ◌+◌, ◌-◌, ◌<◌, ◌≤◌, Bool, List, sym, ◌∙◌, ap, inl, inr, arith, subst, eq-eqb, if◌then◌else◌}
 use Rattle.std.proofs.Math.Seq.{drop-cons}
 use Rattle.std.proofs.lemmas.Bool.{cases_lt, le-ltb, lt-ltb}
 use Rattle.xn_model.specs.Lives.{StoreState}
@@ -85,21 +85,6 @@ turn_high hint n ge = ap (λ (t : Bool). if t then n + leaf_count else n) (le-lt
 module _ (state : StoreState) (fs top hint leaf : ℕ) where
   number_at : CanGive state fs top leaf → CanGive state fs top (leaf + 1 - 1)
   number_at can = let e : leaf ≡ leaf + 1 - 1 = omega arith in subst (CanGive state fs top) e can
-
-  pub next_number : IsNextFree state fs top (hint - 1) leaf → IsNextNumber state fs top hint (leaf + 1)
-  next_number next =
-      let past : hint - 1 ≤ leaf = next.past in
-      let few : leaf < leaf_count = next.few in
-      let high = turn_high hint (leaf + 1) (omega arith) in
-      record {
-        some = omega arith;
-        few = omega arith;
-        can = number_at next.can;
-        first = λ m one most before can. elim (cases_lt m hint) [
-          | inl a ↦ let low = turn_low hint m a in absurd (omega arith)
-          | inr a ↦ let at = turn_high hint m a in next.first (m - 1) (omega arith) (omega arith) can
-        ];
-      }
 
   pub first_number : NoneCanGive state fs top (hint - 1) leaf_count → IsNextFree state fs top 0 leaf → IsNextNumber state fs top hint (leaf + 1)
   first_number none next =

@@ -1,5 +1,5 @@
 -- Bytes that a read copies, part after part.
-use Rattle.std.proofs.Common.{◌≡◌, ℕ, zero, suc, ◌+◌, ◌-◌, ◌/◌, ◌%◌, ◌<◌, ◌≤◌, ◌≢◌, Bool, List, [], ◌∷◌, ◌++◌, map, length, take, drop, get_or, refl, sym, ◌∙◌, ap, arith, length-take, length-drop, get_or-take, get_or-drop, eq-eqb, length-append, if◌then◌else◌, drop-drop, take-append-drop, ne_eqb}
+use Rattle.std.proofs.Common.{◌≡◌, ℕ, zero, suc, ◌+◌, ◌-◌, ◌/◌, ◌%◌, ◌<◌, ◌≤◌, Bool, List, [], ◌∷◌, ◌++◌, map, length, take, drop, get_or, refl, sym, ◌∙◌, ap, arith, length-take, length-drop, get_or-take, get_or-drop, eq-eqb, length-append, drop-drop, take-append-drop, if◌then◌else◌}
 use Rattle.std.specs.Prelude.{slice_index}
 use Rattle.std.specs.List.{range_with_len}
 use Rattle.std.proofs.Math.Seq.{drop-append-add, take-append_seam}
@@ -56,10 +56,6 @@ none_at m e k = ap (λ l. slice_index l k) e
 
 pub no_leaf : (content : ℕ → List ℕ) (block : ℕ) → block ≡ 0 → (k : ℕ) → leaf_byte content block k ≡ 0
 no_leaf content block none k = ap (λ (t : Bool). if t then 0 else slice_index (content block) k) (eq-eqb block 0 none)
-
-pub leaf_part : (content : ℕ → List ℕ) (block at n : ℕ) → block ≢ 0 → map (slice_index (content block)) (range_with_len at n) ≡ map (leaf_byte content block) (range_with_len at n)
-leaf_part content block at n some =
-    maps_same (slice_index (content block)) (leaf_byte content block) at at n (λ k low. sym (ap (λ (t : Bool). if t then 0 else slice_index (content block) (at + k)) (ne_eqb block 0 some)))
 
 -- bytes of a content that stand together
 pub left_low : (at : ℕ) → at < 384 → part_left at ≡ 384 - at

@@ -1,34 +1,11 @@
 -- Leaves whose paths go over the same block.
-use Rattle.std.proofs.Common.{◌≡◌, ℕ, zero, suc, ◌+◌, ◌*◌, ◌-◌, ◌/◌, ◌%◌, ◌<◌, ◌≤◌, ◌^◌, Bool, true, false, List, [], ◌∷◌, ◌++◌, length, drop, refl, sym, ◌∙◌, ap, inl, inr, arith, subst, length-append}
-use Rattle.std.specs.Prelude.{All, map, nat_lt, if◌then◌else◌}
+use Rattle.std.proofs.Common.{◌≡◌, ℕ, zero, suc, ◌+◌, ◌*◌, ◌-◌, ◌/◌, ◌%◌, ◌<◌, ◌≤◌, ◌^◌, Bool, true, false, [], ◌∷◌, ◌++◌, length, drop, refl, sym, ◌∙◌, ap, inl, inr, arith, subst, length-append}
+use Rattle.std.specs.Prelude.{map, nat_lt, if◌then◌else◌}
 use Rattle.std.proofs.Math.Nat.{mul_left_comm, pow-succ'}
 use Rattle.std.proofs.lemmas.Bool.{cases_lt, le-ltb, lt-ltb}
 use Rattle.std.proofs.lemmas.List.{drop-append-le, drop-map, length-map}
-use Rattle.std.proofs.lemmas.List.Elements.{All-append, All-cons, All-map, All-nil}
-use Rattle.treefs_format.specs.Paths.{IsPath, first_leaf, height_of, last_beside, leaf_count, leaf_offset, node_offset, place_in_tree, places, steps, tree_offset, tree_steps}
+use Rattle.treefs_format.specs.Paths.{first_leaf, height_of, last_beside, leaf_count, leaf_offset, node_offset, place_in_tree, places, steps, tree_offset, tree_steps}
 use Rattle.treefs_lookup.specs.Walks.{behind, place_above}
-
--- Offsets
-
-abbrev FitsBlock : ℕ → Type 0
-FitsBlock o = o + 4 ≤ 512
-
--- pointers of a path stand in their blocks
-pub offsets_within : (offsets : List ℕ) → IsPath offsets → All (λ o. o + 4 ≤ 512) offsets
-offsets_within offsets path = elim path [
-  | inl own ↦
-      let lt : own.0 < 16 = own.1 in
-      subst (All FitsBlock) (sym own.2) (All-cons FitsBlock (leaf_offset own.0) [] (omega arith) (All-nil FitsBlock))
-  | inr tree ↦
-      let h = tree.0 in
-      let js = tree.1 in
-      let p = tree.2 in
-      let high : h ≤ 4 = p.high in
-      subst (All FitsBlock) (sym p.whole)
-      (All-append FitsBlock (map node_offset js) (tree_offset h ∷ [])
-      (All-map FitsBlock node_offset js (λ k d lt. let less = p.within k d lt in omega arith))
-      (All-cons FitsBlock (tree_offset h) [] (omega arith) (All-nil FitsBlock)))
-]
 
 -- Heights
 

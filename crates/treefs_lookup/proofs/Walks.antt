@@ -1,6 +1,6 @@
 -- Paths of pointers, and how far they lead.
 use Rattle.std.proofs.Common.{◌≡◌, ℕ, zero, suc, ◌+◌, ◌<◌, ◌≤◌, ◌≢◌, Bool, true, false, List, [], ◌∷◌, ◌++◌, length, length-drop, get_or, take, drop, refl, sym, ◌∙◌, ap, arith, ◌==◌, eq-eqb, ne_eqb, take-append-drop, drop-drop, ◌-◌, if◌then◌else◌}
-use Rattle.std.proofs.Math.Seq.{drop-cons, drop-nil}
+use Rattle.std.proofs.Math.Seq.{drop-nil}
 use Rattle.std.specs.Int.{from_le_bytes, w32}
 use Rattle.xn_model.specs.Root.{word_at}
 use Rattle.treefs_format.specs.Paths.{steps}
@@ -26,14 +26,6 @@ module _ (content : ℕ → List ℕ) (top : ℕ) where
       let e : suc k + 1 ≡ k + 1 + 1 = omega arith in
       ap (further content o) (reach_stops offsets k block (omega arith) so none)
       ∙ (ap (λ (t : Bool). if t then stepped block (pointed content block o) else reached block (k + 1 + 1)) (ne_eqb (k + 1) 0 (omega arith)) ∙ ap (reached block) (sym e))
-
-  -- one that leads somewhere goes on
-  pub reach_goes : (offsets : List ℕ) (k block next : ℕ) → k < length offsets → reach content top (drop (suc k) offsets) ≡ reached block 0 →
-      next ≡ pointed content block (get_or offsets k 0) → next ≢ 0 → reach content top (drop k offsets) ≡ reached next 0
-  reach_goes offsets k block next lt so is some =
-      ap (reach content top) (drop-cons offsets k 0 lt)
-      ∙ (ap (further content (get_or offsets k 0)) so
-      ∙ (ap (stepped block) (sym is) ∙ ap (λ (t : Bool). if t then reached block 1 else reached next 0) (ne_eqb next 0 some)))
 
   end_stepped : (block next : ℕ) (t : Bool) → (next == 0) ≡ t → next ≡ end_of (if t then reached block 1 else reached next 0)
   end_stepped block next true e = grind arith

@@ -23,7 +23,9 @@ pub use inodes::{Found, find_directory, find_file, find_inode, find_link, inode_
 pub use leaves::{Leaf, next_leaf};
 pub use names::{Slot, find_entry, find_name, read_key};
 pub use numbers::find_number;
-pub use paths::{Reach, find_holder, find_leaf, leaf_block, path_blocks, pointer_offset, walk};
+pub use paths::{
+    Reach, find_holder, find_leaf, leaf_block, leaves_beside, path_blocks, pointer_offset, walk,
+};
 pub use places::{NamePlace, find_place};
 pub use sought::{Sought, next_bucket};
 pub use trimmed::{is_blank_past, is_trimmed, stands_past};

@@ -1,7 +1,7 @@
 // Paths of pointers from inodes to leaves.
 
-ghost use Rattle.std.specs.Prelude.{◌≡◌, ◌+◌, ◌<◌, ◌≤◌, All, length};
-ghost use Rattle.treefs_format.specs.Paths.{leaf_count, steps};
+ghost use Rattle.std.specs.Prelude.{◌≡◌, ◌+◌, ◌-◌, ◌<◌, ◌≤◌, All, length};
+ghost use Rattle.treefs_format.specs.Paths.{last_beside, leaf_count, steps};
 ghost use Rattle.treefs_lookup.specs.Readable.{readable};
 ghost use Rattle.treefs_lookup.specs.Walks.{end_of, holder_steps, path_blocks, pointer_offset, reach};
 ghost use Rattle.treefs_model.specs.Reading.{leaf_block};
@@ -10,7 +10,7 @@ use crate::blocks::pointer_at;
 use arrayvec::ArrayVec;
 use edit_list::Fs;
 use treefs_format::law::paths_are_leaves;
-use treefs_format::paths::path;
+use treefs_format::paths::{last_beside, path};
 use xn_state::Store;
 
 /// How far a path of pointers leads.
@@ -108,6 +108,16 @@ pub fn pointer_offset(leaf: u32) -> u16
 {
     paths_are_leaves();
     path(leaf)[0]
+}
+
+/// How many leaves from one on have their pointers in the same block.
+pub fn leaves_beside(leaf: u32) -> u32
+    requires { leaf < leaf_count }
+    ensures count { result ≡ last_beside leaf + 1 - leaf }
+    ensures few { result ≤ 127 }
+    ensures within { leaf + result ≤ leaf_count }
+{
+    last_beside(leaf) + 1 - leaf
 }
 
 /// The block of a leaf of an inode; 0 for none.

@@ -150,9 +150,6 @@ truncated files time n size =
 
 -- Attributes
 
-abbrev pub attributed : Files → ℕ → (Inode → Inode) → Result Files Fault
-attributed files n change = and_then (found files n) (λ inode. Ok (changed_at files n change))
-
 abbrev pub with_permissions : ℤ → ℕ → Inode → Inode
 with_permissions time permissions inode = record (marked time inode) { permissions = permissions }
 

@@ -1,3 +1,5 @@
-pub mod FreeNames
+pub mod Below
+pub mod Names
+pub mod PendingBuckets
 pub mod Placed
 pub mod Within

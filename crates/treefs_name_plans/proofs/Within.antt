@@ -8,20 +8,16 @@ use Rattle.treefs_format.specs.Buckets.{has_name, live_record}
 use Rattle.treefs_format.specs.Candidates.{candidates, name_hash}
 use Rattle.treefs_format.specs.Names.{is_name}
 use Rattle.treefs_format.specs.Records.{Record, is_live}
-use Rattle.treefs_format.specs.declared.kind.Kind.{Kind}
-use Rattle.treefs_format.specs.declared.kind.Kind.TheVariants as kind
 use Rattle.treefs_model.specs.declared.fault.Fault.{Fault}
 use Rattle.treefs_model.specs.declared.fault.Fault.TheVariants.{BadName, NoEntry}
 use Rattle.treefs_model.specs.Files.{and_then}
 use Rattle.treefs_model.specs.Reading.{bucket_of, key_in, leaf_block}
 use Rattle.treefs_lookup.specs.Buckets.{bucket_block, bucket_start}
-use Rattle.treefs_lookup.specs.Inodes.{directory_found, inode_found}
+use Rattle.treefs_lookup.specs.Inodes.{directory_found}
 use Rattle.treefs_lookup.specs.Names.{entry_found, first_some, named_in, slot_in, slot_named, slot_of}
-use Rattle.treefs_lookup.specs.declared.inodes.Found.{Found}
 use Rattle.treefs_lookup.specs.declared.names.Slot.{Slot}
 use Rattle.treefs_lookup.proofs.FoundRecords.{found_within}
-use Rattle.treefs_name_plans.specs.Ends.{ended_in, file_ended, if_no_directory}
-use Rattle.treefs_name_plans.specs.declared.ended.Ended.{Ended}
+use Rattle.treefs_name_plans.specs.Ends.{IsWithin}
 use Rattle.std.specs.Prelude.{◌&&◌}
 
 -- steps that may fail
@@ -35,9 +31,6 @@ then_ok {A} {B} (Ok x) f y e = record { value = x; first = refl; second = e }
 then_ok {A} {B} (Err fault) f y e = absurd (cc e)
 
 -- a record of a bucket
-abbrev pub IsWithin : (ℕ → List ℕ) → Slot → Type 0
-IsWithin content slot = slot.offset ≤ 128 + length (content slot.block)
-
 pub fits : (content : ℕ → List ℕ) (x y : ℕ) (a b : Bool) →
     (if a then 128 else 0) + length (if a then drop 128 (content x) else (if b then [] else content y)) ≤ 128 + length (content (if a then x else y))
 fits content x y true b = let e = length-drop 128 (content x) in omega (arith, e)
@@ -81,26 +74,3 @@ entry_within content top d name s is =
     let found = then_ok (directory_found content top d) (λ directory. named_in content (key_in content top) name directory.block) s is in
     let key = key_in content top in
     named_within content key found.value.block name s (some_named (is_name name) (slot_named content key found.value.block name) s found.second)
-
-file_same : (ended e : Ended) (k : Kind) → if_no_directory e k ≡ Ok ended → e ≡ ended
-file_same ended e kind.Directory h = absurd (cc h)
-file_same ended e kind.File h = cc
-file_same ended e kind.SymbolicLink h = cc
-
-abbrev ended_at : Slot → Found → Found → Result Ended Fault
-ended_at slot directory inode = Ok (record { directory = directory.block; slot = slot; inode = inode })
-
-ended_within : (content : ℕ → List ℕ) (top d : ℕ) (name : List ℕ) (ended : Ended) → ended_in content top d name ≡ Ok ended → IsWithin content ended.slot
-ended_within content top d name ended is =
-    let a = then_ok (entry_found content top d name) (λ slot. and_then (directory_found content top d) (λ directory. and_then (inode_found content top slot.number) (ended_at slot directory))) ended is in
-    let b = then_ok (directory_found content top d) (λ directory. and_then (inode_found content top a.value.number) (ended_at a.value directory)) ended a.second in
-    let c = then_ok (inode_found content top a.value.number) (ended_at a.value b.value) ended b.second in
-    let last : ended_at a.value b.value c.value ≡ Ok ended = c.second in
-    let same : a.value ≡ ended.slot = cc in
-    subst (IsWithin content) same (entry_within content top d name a.value a.first)
-
-pub file_within : (content : ℕ → List ℕ) (top d : ℕ) (name : List ℕ) (ended : Ended) → file_ended content top d name ≡ Ok ended → IsWithin content ended.slot
-file_within content top d name ended is =
-    let a = then_ok (ended_in content top d name) (λ ended. if_no_directory ended ended.inode.kind) ended is in
-    let same : a.value ≡ ended = file_same ended a.value a.value.inode.kind a.second in
-    ended_within content top d name ended (subst (λ (e : Ended). ended_in content top d name ≡ Ok e) same a.first)

@@ -1,49 +1,17 @@
 -- A record is made in a directory.
---     path_starts, path_acts      the blocks that a path lacks, and how they are attached
 --     Addition                    where the record goes
 --     addition_starts             the blocks that are begun for it
 --     rewriting, addition_acts    a bucket is first rewritten; what makes the record
-use Rattle.std.specs.Prelude.{ℕ, List, [], ◌∷◌, ◌++◌, drop, length, reverse, slice_index, take, ◌-◌, Some, None, nat_lt, if◌then◌else◌}
-use Rattle.treefs_format.specs.Nodes.{node_bytes}
-use Rattle.treefs_format.specs.Paths.{leaf_count, steps}
+use Rattle.std.specs.Prelude.{ℕ, List, [], ◌∷◌, ◌++◌, drop, length, slice_index, ◌-◌, Some, if◌then◌else◌}
 use Rattle.treefs_format.specs.Records.{Entry}
-use Rattle.treefs_model.specs.Acts.{Act, attach_act, record_act, wait_act}
+use Rattle.treefs_model.specs.Acts.{Act, record_act}
 use Rattle.treefs_edits.specs.declared.start.Start.{Start}
 use Rattle.treefs_edits.specs.Kinds.{rewritten_act}
+use Rattle.treefs_edits.specs.Missing.{missing_path, path_acts, path_starts}
 pub use Rattle.treefs_name_plans.specs.declared.addition.NewBucket.{NewBucket}
 use Rattle.treefs_name_plans.specs.declared.addition.OldBucket.{OldBucket}
 pub use Rattle.treefs_name_plans.specs.declared.addition.Addition.{Addition}
 use Rattle.treefs_name_plans.specs.declared.addition.Addition.TheVariants.{Behind, Rewritten, Made}
-
--- Paths. A path is the offsets of the pointers that are missing, the first one in the block that owns it; its last block is a leaf.
-
--- the type of the block to which a pointer leads, by the pointers behind that one
-abbrev pub type_before : ℕ → List ℕ → ℕ
-type_before node_type [] = 2
-type_before node_type (offset ∷ offsets) = node_type
-
--- the type of the blocks to which that block points, which its first byte says; a leaf of zeros says 0
-abbrev pub first_byte : ℕ → List ℕ → ℕ
-first_byte node_type [] = 0
-first_byte node_type (offset ∷ offsets) = type_before node_type offsets
-
-abbrev pub path_starts : ℕ → List ℕ → List Start
-path_starts node_type [] = []
-path_starts node_type (offset ∷ offsets) =
-    record { ty = type_before node_type offsets; bytes = node_bytes (first_byte node_type offsets) } ∷ path_starts node_type offsets
-
--- each new block is attached to the one before, and waits for that
-abbrev pub path_acts : ℕ → ℕ → List ℕ → List ℕ → List Act
-path_acts node_type owner [] begun = []
-path_acts node_type owner (offset ∷ offsets) [] = []
-path_acts node_type owner (offset ∷ offsets) (block ∷ begun) =
-    attach_act owner offset (type_before node_type offsets) (block ∷ []) None
-    ∷ wait_act block (first_byte node_type offsets ∷ []) owner
-    ∷ path_acts node_type block offsets begun
-
--- the pointers of the path to a leaf that are missing, where so many are
-abbrev pub missing_path : ℕ → ℕ → List ℕ
-missing_path leaf missing = if nat_lt leaf leaf_count then reverse (take missing (steps leaf)) else []
 
 abbrev pub bucket_path : NewBucket → List ℕ
 bucket_path made = missing_path made.leaf made.missing

@@ -1,17 +1,19 @@
 -- A name ends.
 --     Ended, ended_in            the record that ends, its directory, and its inode
+--     IsWithin                   a record begins within its block
 --     IsOther                    the block of the other name behind which it ends, if it has to
 --     fewer_links                what becomes of the inode
---     EndPlan, end_plan          what a name's end takes
+--     name_end                   what the end of a name changes
+--     end_acts, EndPlan, end_plan     what a name's end takes
 --     IsUnlinkPlanned            what the end of a file's name answers, or takes
-use Rattle.std.specs.Prelude.{◌≡◌, ◌⊎◌, ℕ, ◌+◌, ◌-◌, ◌==◌, nat_le, nat_lt, Bool, ◌||◌, List, [], ◌∷◌, length, Option, None, Some, Result, Ok, Err, MatchBool, MatchResult, if◌then◌else◌}
+use Rattle.std.specs.Prelude.{◌≡◌, ◌⊎◌, ℕ, ◌+◌, ◌-◌, ◌==◌, ◌≤◌, nat_le, nat_lt, Bool, ◌||◌, List, [], ◌∷◌, length, Option, None, Some, Result, Ok, Err, MatchBool, MatchResult, if◌then◌else◌}
 use Rattle.xn_model.specs.Lives.{StoreState}
 use Rattle.treefs_format.specs.declared.kind.Kind.{Kind}
 use Rattle.treefs_format.specs.declared.kind.Kind.TheVariants as kind
 use Rattle.treefs_format.specs.declared.fields.Fields.{Fields}
 use Rattle.treefs_format.specs.Paths.{leaf_count}
 use Rattle.treefs_model.specs.declared.fault.Fault.{Fault}
-use Rattle.treefs_model.specs.declared.fault.Fault.TheVariants.{Full, IsDir}
+use Rattle.treefs_model.specs.declared.fault.Fault.TheVariants.{Full, IsDir, NotDir}
 use Rattle.treefs_model.specs.Acts.{Act, number_act}
 use Rattle.treefs_model.specs.Files.{and_then}
 use Rattle.treefs_lookup.specs.Inodes.{directory_found, inode_found}
@@ -20,6 +22,7 @@ use Rattle.treefs_lookup.specs.Readable.{readable}
 use Rattle.treefs_lookup.specs.Sought.{AreWithout, IsNextBucket}
 use Rattle.treefs_lookup.specs.declared.bucket.Bucket.{Bucket}
 use Rattle.treefs_lookup.specs.declared.inodes.Found.{Found}
+use Rattle.treefs_lookup.specs.declared.names.Slot.{Slot}
 use Rattle.treefs_lookup.specs.declared.sought.Sought.TheVariants.{Other}
 use Rattle.treefs_edits.specs.declared.times.Times.{Times}
 use Rattle.treefs_edits.specs.declared.tree.Tree.{Tree}
@@ -29,6 +32,7 @@ use Rattle.treefs_edits.specs.Rooms.{has_room}
 use Rattle.treefs_name_plans.specs.Links.{link_act}
 use Rattle.treefs_name_plans.specs.declared.link_change.LinkChange.{LinkChange}
 use Rattle.treefs_name_plans.specs.declared.end.EndPlan.{EndPlan}
+use Rattle.treefs_name_plans.specs.declared.name_end.NameEnd.{NameEnd}
 use Rattle.treefs_name_plans.specs.declared.ended.Ended.{Ended}
 
 -- What ends
@@ -48,6 +52,17 @@ if_no_directory ended kind.SymbolicLink = Ok ended
 -- of a file or a symbolic link
 abbrev pub file_ended : (ℕ → List ℕ) → ℕ → ℕ → List ℕ → Result Ended Fault
 file_ended content top d name = and_then (ended_in content top d name) (λ ended. if_no_directory ended ended.inode.kind)
+
+abbrev pub if_directory : Ended → Kind → Result Ended Fault
+if_directory ended kind.Directory = Ok ended
+if_directory ended kind.File = Err NotDir
+if_directory ended kind.SymbolicLink = Err NotDir
+
+abbrev pub directory_ended : (ℕ → List ℕ) → ℕ → ℕ → List ℕ → Result Ended Fault
+directory_ended content top d name = and_then (ended_in content top d name) (λ ended. if_directory ended ended.inode.kind)
+
+abbrev pub IsWithin : (ℕ → List ℕ) → Slot → Type 0
+IsWithin content slot = slot.offset ≤ 128 + length (content slot.block)
 
 -- The other name
 
@@ -84,26 +99,26 @@ fewer_links memory number inode = record {
 
 -- The plan
 
--- the number in its record becomes 0; then its inode gets a link fewer
-abbrev pub end_acts : EndPlan → List Act
-end_acts p = number_act p.block p.offset 0 p.behind ∷ link_act p.fewer p.block ∷ []
-
-abbrev pub end_plan : EndPlan → Plan
-end_plan p = record { starts = []; acts = λ begun. end_acts p }
-
-abbrev pub planned_end : Memory → Ended → Option ℕ → EndPlan
-planned_end memory ended behind = record {
+-- its record, and its inode
+abbrev pub name_end : Memory → Ended → NameEnd
+name_end memory ended = record {
   number = ended.slot.number;
   block = ended.slot.block;
   offset = ended.slot.offset;
-  behind = behind;
   fewer = fewer_links memory ended.slot.number ended.inode;
 }
+
+-- the number in its record becomes 0; then its inode gets a link fewer
+abbrev pub end_acts : NameEnd → Option ℕ → List Act
+end_acts end behind = number_act end.block end.offset 0 behind ∷ link_act end.fewer end.block ∷ []
+
+abbrev pub end_plan : EndPlan → Plan
+end_plan p = record { starts = []; acts = λ begun. end_acts p.end p.behind }
 
 abbrev pub end_in_room : StoreState → ℕ → Memory → Ended → Option ℕ → Result EndPlan Fault
 end_in_room state fs memory ended behind =
     if has_room state fs (length memory.touched) 4 ((ended.slot.block, 2) ∷ (ended.inode.block, 1) ∷ [])
-    then Ok (planned_end memory ended behind) else Err Full
+    then Ok (record { end = name_end memory ended; behind = behind }) else Err Full
 
 abbrev pub IsUnlinkPlanned : StoreState → Tree → Memory → ℕ → List ℕ → Result EndPlan Fault → Type 0
 IsUnlinkPlanned state tree memory d name result =

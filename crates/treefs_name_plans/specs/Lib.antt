@@ -1,6 +1,11 @@
 pub mod Additions
+pub mod CommitPlans
 pub mod Ends
 pub mod LinkPlans
 pub mod Links
+pub mod Moves
+pub mod Namings
 pub mod NewNames
 pub mod NewPlans
+pub mod Removals
+pub mod RenamePlans

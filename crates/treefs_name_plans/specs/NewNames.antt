@@ -1,20 +1,24 @@
 -- A new name in a directory.
+--     taken_in          the record that has a name of a directory
+--     directory_for     the directory that is to have a name: its faults, then `BadName`
 --     free_name         the directory, where it does not have the name yet: its faults, then `BadName`, `Exists`
 --     addition_at       what a place for the record takes
 --     addition_in       where the record of a new name goes; the faults are the directory's, then `Full`, `TooLarge`
 --     addition_parts    in which blocks how many entries may come to be pending for it
 --     IsWithinBlocks    a place begins within its block, and a bucket that is to be made is a leaf
-use Rattle.std.specs.Prelude.{ℕ, ◌+◌, ◌-◌, ◌==◌, ◌<◌, ◌≤◌, List, [], ◌∷◌, length, Result, Ok, Err}
+use Rattle.std.specs.Prelude.{ℕ, ◌+◌, ◌-◌, ◌==◌, ◌<◌, ◌≤◌, List, [], ◌∷◌, length, Option, None, Some, Result, Ok, Err, if◌then◌else◌}
 use Rattle.xn_model.specs.Lives.{StoreState}
+use Rattle.treefs_format.specs.Names.{is_name}
 use Rattle.treefs_format.specs.Paths.{leaf_count, steps}
 use Rattle.treefs_model.specs.declared.fault.Fault.{Fault}
-use Rattle.treefs_model.specs.declared.fault.Fault.TheVariants.{Exists, NoEntry}
+use Rattle.treefs_model.specs.declared.fault.Fault.TheVariants.{BadName, Exists, NoEntry}
 use Rattle.treefs_model.specs.Files.{and_then}
 use Rattle.treefs_model.specs.Reading.{key_in}
 use Rattle.treefs_lookup.specs.Inodes.{directory_found}
 use Rattle.treefs_lookup.specs.Names.{entry_found, place_of}
 use Rattle.treefs_lookup.specs.Readable.{readable}
 use Rattle.treefs_lookup.specs.Walks.{reach}
+use Rattle.treefs_lookup.specs.declared.inodes.Found.{Found}
 use Rattle.treefs_lookup.specs.declared.names.Slot.{Slot}
 use Rattle.treefs_lookup.specs.declared.paths.Reach.{Reach}
 use Rattle.treefs_lookup.specs.declared.places.NamePlace.{NamePlace}
@@ -23,16 +27,27 @@ use Rattle.treefs_edits.specs.declared.tree.Tree.{Tree}
 use Rattle.treefs_name_plans.specs.declared.addition.Addition.{Addition}
 use Rattle.treefs_name_plans.specs.declared.addition.Addition.TheVariants.{Behind, Rewritten, Made}
 
--- Names that are free
+-- Names that are there, or free
 
-abbrev pub if_absent : Result Slot Fault → ℕ → Result ℕ Fault
-if_absent (Ok slot) directory = Err Exists
-if_absent (Err NoEntry) directory = Ok directory
-if_absent (Err fault) directory = Err fault
+abbrev pub if_taken : Result Slot Fault → Result (Option Slot) Fault
+if_taken (Ok slot) = Ok (Some slot)
+if_taken (Err NoEntry) = Ok None
+if_taken (Err fault) = Err fault
+
+abbrev pub taken_in : (ℕ → List ℕ) → ℕ → ℕ → List ℕ → Result (Option Slot) Fault
+taken_in content top d name = if_taken (entry_found content top d name)
+
+abbrev pub directory_for : (ℕ → List ℕ) → ℕ → ℕ → List ℕ → Result Found Fault
+directory_for content top d name = and_then (directory_found content top d) (λ directory. if is_name name then Ok directory else Err BadName)
+
+abbrev pub if_free : ℕ → Option Slot → Result ℕ Fault
+if_free directory None = Ok directory
+if_free directory (Some slot) = Err Exists
 
 -- its inode block
 abbrev pub free_name : (ℕ → List ℕ) → ℕ → ℕ → List ℕ → Result ℕ Fault
-free_name content top d name = and_then (directory_found content top d) (λ directory. if_absent (entry_found content top d name) directory.block)
+free_name content top d name =
+    and_then (directory_for content top d name) (λ directory. and_then (taken_in content top d name) (if_free directory.block))
 
 -- Where they go
 

@@ -2,13 +2,14 @@
 
 ghost use Rattle.std.specs.Prelude.{◌≡◌, ◌≤◌, length, OnOk};
 ghost use Rattle.treefs_format.specs.Paths.{leaf_count};
-ghost use Rattle.treefs_name_plans.specs.NewPlans.{IsNewPlanned, IsNumberFound, free_in_room, new_in_room};
+ghost use Rattle.treefs_name_plans.specs.NewPlans.{IsNewPlanned, free_in_room, new_in_room};
 
 use crate::addition::Addition;
-use crate::new_names::{addition_parts, find_addition, find_free_name, free_names_are_short};
+use crate::commit::{commit_in_room, find_new_number};
+use crate::naming::Naming;
+use crate::new_names::{find_addition, find_free_name};
 use crate::new_plan::NewPlan;
-use treefs_edits::{Memory, Tree, has_room, have_room};
-use treefs_lookup::{find_leaf, find_number};
+use treefs_edits::{Memory, Tree, has_room};
 use treefs_model::Fault;
 use xn_state::Store;
 
@@ -24,19 +25,11 @@ fn find_free_in_room<S: Store>(
     ensures planned { result ≡ free_in_room (S.state_of store.now) tree memory.now directory name.now }
     ensures short { OnOk result (length name.now ≤ 255) }
 {
-    free_names_are_short();
     let block = find_free_name(store, tree, directory, name)?;
     if !has_room(store, tree.fs, memory.touched.len(), 2, &[]) {
         return Err(Fault::Full);
     }
     Ok(block)
-}
-
-/// The number that a new inode gets. The faults are `Full` and `NoInode`.
-fn find_new_number<S: Store>(store: &S, tree: Tree, memory: &Memory) -> Result<u32, Fault>
-    ensures { IsNumberFound (S.state_of store.now) tree memory.now result }
-{
-    find_number(store, tree.fs, tree.top, memory.hint)
 }
 
 /// What a new inode with its first name takes, where there is room for it; else the fault is `Full`.
@@ -52,22 +45,11 @@ fn new_in_room<S: Store>(
     requires { number ≤ leaf_count }
     ensures { result ≡ new_in_room (S.state_of store.now) tree memory.now number directory inode.now addition }
 {
-    let table = find_leaf(store, tree.fs, tree.top, number.saturating_sub(1));
-    let parts = addition_parts(&addition, directory);
-    let room = has_room(store, tree.fs, memory.touched.len(), 31, &parts)
-        && have_room(store, &[(table.block, 2)]);
-    if !room {
-        return Err(Fault::Full);
-    }
+    let naming = Naming::Added(addition);
+    let commit = commit_in_room(store, tree, memory, 31, number, directory, naming)?;
     Ok(NewPlan {
-        number,
-        directory,
         inode: *inode,
-        node_type: tree.node_type,
-        inode_type: tree.inode_type,
-        owner: table.block,
-        missing: table.missing,
-        addition,
+        commit,
     })
 }
 

@@ -7,7 +7,7 @@ ghost use Rattle.treefs_name_plans.specs.LinkPlans.{holder_of, link_in_room, lin
 use crate::addition::Addition;
 use crate::link_change::LinkChange;
 use crate::link_plan::LinkPlan;
-use crate::new_names::{addition_parts, find_addition, find_free_name, free_names_are_short};
+use crate::new_names::{addition_parts, find_addition, find_free_name};
 use treefs_edits::{Memory, Times, Tree, has_room, have_room};
 use treefs_format::paths::LEAVES;
 use treefs_format::roots::inode_leaf;
@@ -27,7 +27,7 @@ fn find_linkable<S: Store>(store: &S, tree: Tree, number: u32) -> Result<Found, 
 }
 
 /// The block that has the pointer to an inode; of a number that is none, inode 0.
-fn find_holder_of<S: Store>(store: &S, tree: Tree, number: u32) -> u32
+pub fn find_holder_of<S: Store>(store: &S, tree: Tree, number: u32) -> u32
     ensures { result ≡ holder_of (readable (S.state_of store.now) tree.fs.number) tree.top number }
 {
     if number == 0 || number > LEAVES {
@@ -37,7 +37,7 @@ fn find_holder_of<S: Store>(store: &S, tree: Tree, number: u32) -> u32
 }
 
 /// What becomes of an inode that gets one more name. The fault is `TooLarge` where it has 2^32 - 1 links.
-fn more_links(memory: &Memory, number: u32, inode: &Found) -> Result<LinkChange, Fault>
+pub fn more_links(memory: &Memory, number: u32, inode: &Found) -> Result<LinkChange, Fault>
     ensures { result ≡ more_links memory.now number inode.now }
 {
     let times = Times {
@@ -69,7 +69,6 @@ pub fn plan_link<S: Store>(
     ensures planned { result ≡ link_planned (S.state_of store.now) tree memory.now number directory name.now }
     ensures short { OnOk result (length name.now ≤ 255) }
 {
-    free_names_are_short();
     let _ = find_directory(store, tree.fs, tree.top, directory)?;
     let inode = find_linkable(store, tree, number)?;
     let block = find_free_name(store, tree, directory, name)?;

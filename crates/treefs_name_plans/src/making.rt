@@ -4,13 +4,13 @@ ghost use Rattle.std.specs.Prelude.{◌≡◌, ◌++◌, ◌≤◌, length, IfOk
 ghost use Rattle.treefs_name_plans.specs.Additions.{addition_acts, addition_starts, last_block, rewriting};
 
 use crate::addition::Addition;
-use crate::missing::{missing_path, push_path_acts, push_path_starts};
 use std::alloc::{AllocError, Global};
+use treefs_edits::missing::{missing_path, push_path_acts, push_path_starts};
 use treefs_edits::{Act, Start, kinds};
 use treefs_format::inodes::CONTENT;
 
 /// The last of the blocks that were begun; 0 where none was.
-fn last_block(begun: &[u32]) -> u32
+pub(crate) fn last_block(begun: &[u32]) -> u32
     ensures { result ≡ last_block begun.now }
 {
     match begun {

@@ -1,20 +1,22 @@
 // A new name in a directory.
 
-ghost use Rattle.std.specs.Prelude.{◌≡◌, ◌<◌, ◌≤◌, ◌-◌, ℕ, List, Ok, length, IfOk};
+ghost use Rattle.std.specs.Prelude.{◌≡◌, ◌<◌, ◌≤◌, ◌-◌, ℕ, List, Ok, length, true, IfOk, OnOk};
 ghost use Rattle.xn_model.specs.Lives.{StoreState};
 ghost use Rattle.treefs_lookup.specs.Names.{place_of};
+ghost use Rattle.treefs_format.specs.Names.{is_name};
 ghost use Rattle.treefs_format.specs.Paths.{leaf_count, steps};
 ghost use Rattle.treefs_lookup.specs.Readable.{readable};
 ghost use Rattle.treefs_lookup.specs.Walks.{reach};
 ghost use Rattle.treefs_lookup.specs.declared.places.NamePlace.{NamePlace};
-ghost use Rattle.treefs_name_plans.specs.NewNames.{IsWithinBlocks, addition_at, addition_in, addition_parts, free_name, made_at, place_in};
+ghost use Rattle.treefs_name_plans.specs.NewNames.{IsWithinBlocks, addition_at, addition_in, addition_parts, directory_for, free_name, made_at, place_in, taken_in};
 
 use crate::addition::{Addition, NewBucket, OldBucket};
 use crate::slots::narrow;
 use treefs_edits::Tree;
 use treefs_format::inodes::CONTENT;
+use treefs_format::is_name;
 use treefs_lookup::{
-    NamePlace, find_directory, find_entry, find_leaf, find_place, read_block, read_key,
+    Found, NamePlace, Slot, find_directory, find_entry, find_leaf, find_place, read_block, read_key,
 };
 use treefs_model::Fault;
 use xn_state::Store;
@@ -25,10 +27,44 @@ pub fn places_are_within()
         IsWithinBlocks (readable state fs) place }
 {}
 
-/// A name that a directory does not have yet has at most 255 bytes.
-pub fn free_names_are_short()
-    ensures { (content : ℕ → List ℕ) (top d directory : ℕ) (name : List ℕ) → free_name content top d name ≡ Ok directory → length name ≤ 255 }
+/// A name has at most 255 bytes.
+pub fn names_are_short()
+    ensures { (name : List ℕ) → is_name name ≡ true → length name ≤ 255 }
 {}
+
+/// The directory that is to have a name. The faults are those of the directory, and `BadName`.
+pub fn find_directory_for<S: Store>(
+    store: &S,
+    tree: Tree,
+    directory: u32,
+    name: &[u8],
+) -> Result<Found, Fault>
+    ensures found { result ≡ directory_for (readable (S.state_of store.now) tree.fs.number) tree.top directory name.now }
+    ensures short { OnOk result (length name.now ≤ 255) }
+{
+    names_are_short();
+    let found = find_directory(store, tree.fs, tree.top, directory)?;
+    if !is_name(name) {
+        return Err(Fault::BadName);
+    }
+    Ok(found)
+}
+
+/// The record that has a name of a directory; `None` where it isn't there. The faults are those of the directory, and `BadName`.
+pub fn find_taken<S: Store>(
+    store: &S,
+    tree: Tree,
+    directory: u32,
+    name: &[u8],
+) -> Result<Option<Slot>, Fault>
+    ensures { result ≡ taken_in (readable (S.state_of store.now) tree.fs.number) tree.top directory name.now }
+{
+    match find_entry(store, tree.fs, tree.top, directory, name) {
+        Ok(slot) => Ok(Some(slot)),
+        Err(Fault::NoEntry) => Ok(None),
+        Err(fault) => Err(fault),
+    }
+}
 
 /// The inode block of a directory that does not have a name yet. The faults are those of the directory, `BadName`, and `Exists`.
 pub fn find_free_name<S: Store>(
@@ -37,13 +73,13 @@ pub fn find_free_name<S: Store>(
     directory: u32,
     name: &[u8],
 ) -> Result<u32, Fault>
-    ensures { result ≡ free_name (readable (S.state_of store.now) tree.fs.number) tree.top directory name.now }
+    ensures free { result ≡ free_name (readable (S.state_of store.now) tree.fs.number) tree.top directory name.now }
+    ensures short { OnOk result (length name.now ≤ 255) }
 {
-    let block = find_directory(store, tree.fs, tree.top, directory)?.block;
-    match find_entry(store, tree.fs, tree.top, directory, name) {
-        Ok(_) => Err(Fault::Exists),
-        Err(Fault::NoEntry) => Ok(block),
-        Err(fault) => Err(fault),
+    let block = find_directory_for(store, tree, directory, name)?.block;
+    match find_taken(store, tree, directory, name)? {
+        None => Ok(block),
+        Some(_) => Err(Fault::Exists),
     }
 }
 

@@ -2,8 +2,9 @@
 
 ghost use Rattle.std.specs.Prelude.{◌≡◌, ◌≤◌, ◌+◌, ℕ, List, Ok, length};
 ghost use Rattle.treefs_lookup.specs.Readable.{readable};
-ghost use Rattle.treefs_name_plans.specs.Ends.{file_ended};
-ghost use Rattle.treefs_name_plans.specs.declared.ended.Ended.{Ended};
+ghost use Rattle.treefs_lookup.specs.Names.{entry_found};
+ghost use Rattle.treefs_lookup.specs.declared.names.Slot.{Slot};
+ghost use Rattle.treefs_name_plans.specs.Ends.{IsWithin};
 
 use edit_list::Fs;
 use treefs_lookup::read_block;
@@ -11,8 +12,7 @@ use xn_state::Store;
 
 /// The record of a name that is found begins within its block.
 pub fn slots_are_within()
-    ensures { (content : ℕ → List ℕ) (top d : ℕ) (name : List ℕ) (ended : Ended) → file_ended content top d name ≡ Ok ended →
-        ended.slot.offset ≤ 128 + length (content ended.slot.block) }
+    ensures { (content : ℕ → List ℕ) (top d : ℕ) (name : List ℕ) (slot : Slot) → entry_found content top d name ≡ Ok slot → IsWithin content slot }
 {}
 
 /// A block that may be read has 512 bytes, and none of another is read.

@@ -2,6 +2,7 @@
 
 ghost use Rattle.std.specs.Prelude.{◌<◌};
 
+use crate::byte_calls::{byte_call, write_done};
 use crate::recorder::Recorder;
 use crate::reports::{write_fault, write_found, write_listing, write_number};
 use crate::text::{parse_bytes, parse_name, write_bytes};
@@ -11,6 +12,7 @@ use std::alloc::Global;
 use std::fmt::Write;
 use std::thread::Threads;
 use treefs::{Attributes, Volume};
+use treefs_format::Kind;
 use treefs_lookup::{find_entry, find_inode, read, read_link};
 use treefs_model::Fault;
 use world::{Event, Reply, Running};
@@ -103,15 +105,6 @@ impl Player {
     }
 }
 
-/// What a call answers that answers nothing.
-fn write_done(out: &mut String, done: Result<(), Fault>) -> Result<(), PlayFault> {
-    match done {
-        Ok(()) => out.push_str("ok")?,
-        Err(fault) => write_fault(out, fault)?,
-    }
-    Ok(())
-}
-
 /// Makes a call and writes its answer; `false` where these words are none.
 fn answer(
     alloc: Global,
@@ -129,7 +122,17 @@ fn answer(
         ["symlink", directory, name, target] => symlink(alloc, made, out, directory, name, target)?,
         ["link", inode, directory, name] => link(alloc, made, out, inode, directory, name)?,
         ["unlink", directory, name] => unlink(alloc, made, out, directory, name)?,
-        _ => return look(alloc, made, words, out),
+        ["rmdir", directory, name] => rmdir(alloc, made, out, directory, name)?,
+        ["rename", directory, name, other, new_name] => {
+            rename(alloc, made, out, [directory, other], [name, new_name])?;
+        }
+        _ => {
+            return Ok(
+                write_parts(alloc, made, words, out)?
+                    || byte_call(alloc, made, words, out)?
+                    || look(alloc, made, words, out)?,
+            );
+        }
     }
     Ok(true)
 }
@@ -210,6 +213,98 @@ fn unlink(
     let name = parse_name(alloc, name)?.unwrap_or(Vec::new(alloc));
     let done = made.volume.unlink(alloc, &mut made.store, d, &name);
     write_done(out, done)
+}
+
+/// Takes a name of a directory.
+fn rmdir(
+    alloc: Global,
+    made: &mut Made,
+    out: &mut String,
+    directory: &str,
+    name: &str,
+) -> Result<(), PlayFault> {
+    let d = number(directory).unwrap_or(0);
+    let name = parse_name(alloc, name)?.unwrap_or(Vec::new(alloc));
+    let done = made.volume.rmdir(alloc, &mut made.store, d, &name);
+    write_done(out, done)
+}
+
+/// Moves a name.
+fn rename(
+    alloc: Global,
+    made: &mut Made,
+    out: &mut String,
+    directories: [&str; 2],
+    names: [&str; 2],
+) -> Result<(), PlayFault> {
+    let from = number(directories[0]).unwrap_or(0);
+    let to = number(directories[1]).unwrap_or(0);
+    let name = parse_name(alloc, names[0])?.unwrap_or(Vec::new(alloc));
+    let new_name = parse_name(alloc, names[1])?.unwrap_or(Vec::new(alloc));
+    let done = made
+        .volume
+        .rename(alloc, &mut made.store, from, &name, to, &new_name);
+    write_done(out, done)
+}
+
+/// A call that begins a file, or gives it a name; `false` where these words are none.
+fn write_parts(
+    alloc: Global,
+    made: &mut Made,
+    words: &[&str],
+    out: &mut String,
+) -> Result<bool, PlayFault> {
+    match words {
+        ["begin", head] => {
+            let begun = begin(alloc, made, head)?;
+            write_number(out, begun)?;
+        }
+        ["commit", block, directory, name, kept] => {
+            let block = number(block).unwrap_or(0);
+            let replace = *kept == "replace";
+            let named = commit(alloc, made, block, directory, name, replace)?;
+            write_number(out, named)?;
+        }
+        ["put", directory, name, head] => {
+            let named = match begin(alloc, made, head)? {
+                Ok(block) => commit(alloc, made, block, directory, name, true)?,
+                Err(fault) => Err(fault),
+            };
+            write_number(out, named)?;
+        }
+        _ => return Ok(false),
+    }
+    Ok(true)
+}
+
+/// Begins a file with at most 384 bytes.
+fn begin(alloc: Global, made: &mut Made, head: &str) -> Result<Result<u32, Fault>, PlayFault> {
+    let head = parse_bytes(alloc, head)?.unwrap_or(Vec::new(alloc));
+    if head.len() > 384 {
+        return Ok(Err(Fault::TooLarge));
+    }
+    let attributes = attributes(0o644);
+    Ok(
+        made.volume
+            .begin(&mut made.store, Kind::File, attributes, &head),
+    )
+}
+
+/// Gives a file that was begun a name.
+fn commit(
+    alloc: Global,
+    made: &mut Made,
+    block: u32,
+    directory: &str,
+    name: &str,
+    replace: bool,
+) -> Result<Result<u32, Fault>, PlayFault> {
+    let d = number(directory).unwrap_or(0);
+    let name = parse_name(alloc, name)?.unwrap_or(Vec::new(alloc));
+    Ok(
+        made.volume
+            .commit(alloc, &mut made.store, block, d, &name, replace),
+    )
 }
 
 /// A call that only looks, or one of the device; `false` where these words are none.

@@ -3,6 +3,7 @@
 // May touch: memory, threads, files, streams.
 #![tactic(auto)]
 
+mod byte_calls;
 mod calls;
 mod device;
 mod recorder;

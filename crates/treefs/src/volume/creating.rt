@@ -2,18 +2,18 @@
 
 ghost use Rattle.std.specs.Prelude.{◌≡◌, ◌<◌, ◌≤◌, Ok, length};
 ghost use Rattle.treefs_format.specs.Inodes.{inode_bytes};
-ghost use Rattle.treefs.specs.Creating.{CreateDoes, MkdirDoes, NewDoes, SymlinkDoes, moved_volume, new_fields};
+ghost use Rattle.treefs.specs.Committing.{BeginsInRoom};
+ghost use Rattle.treefs.specs.Creating.{BeginDoes, CreateDoes, MkdirDoes, NewDoes, SymlinkDoes, moved_volume, new_fields};
 
 use crate::attributes::Attributes;
-use crate::memory::{now_times, record_entry};
+use crate::memory::{naming_entry, note_replaced, now_times, touch_naming};
 use crate::volume::Volume;
 use std::alloc::Global;
-use treefs_edits::memory::touch;
-use treefs_edits::{Memory, Tree, carry_out, lacks_memory};
+use treefs_edits::{Memory, Tree, carry_out, has_room, lacks_memory, start_fault};
 use treefs_format::inodes::new_inode;
 use treefs_format::{Fields, Kind};
 use treefs_model::Fault;
-use treefs_name_plans::{MakingNew, NewPlan, plan_new};
+use treefs_name_plans::{CommitPlan, MakingNew, NewPlan, plan_new};
 use xn_state::Store;
 
 /// The type of leaves.
@@ -64,7 +64,45 @@ fn new_block(
     new_inode(&fields, content)
 }
 
+/// Begins an inode with these bytes in its block, where there is room. The faults are `Full` and `NoSpace`; all others are the kernel's.
+fn begin_block<S: Store>(
+    store: &mut S,
+    tree: Tree,
+    memory: &Memory,
+    inode: &[u8; 512],
+) -> Result<u32, Fault>
+    ensures types { S.types_of store.new ≡ S.types_of store.old }
+    ensures does { BeginsInRoom (S.types_of store.old) tree.fs.number (length memory.now.touched) (record { ty = tree.inode_type; bytes = inode.now })
+        (S.state_of store.old) (S.state_of store.new) result }
+{
+    if !has_room(store, tree.fs, memory.touched.len(), 2, &[]) {
+        return Err(Fault::Full);
+    }
+    match store.init(tree.fs, u32::from(tree.inode_type), inode) {
+        Ok((block, _)) => Ok(block),
+        Err(reason) => Err(start_fault(reason)),
+    }
+}
+
 impl Volume {
+    /// Begins a file or a symbolic link with these first bytes of its content, at most 384, and answers its block. `commit` gives it a name. The
+    /// faults are `Full` and `NoSpace`; `Kernel` comes where the store refuses it.
+    pub fn begin<S: Store>(
+        &self,
+        store: &mut S,
+        kind: Kind,
+        attributes: Attributes,
+        head: &[u8],
+    ) -> Result<u32, Fault>
+        requires permissions { attributes.permissions < 4096 }
+        requires short { length head.now ≤ 384 }
+        ensures types { S.types_of store.new ≡ S.types_of store.old }
+        ensures does { BeginDoes (S.types_of store.old) (S.state_of store.old) (S.state_of store.new) self.now kind attributes head.now result }
+    {
+        let inode = new_block(self.tree, &self.memory, kind, attributes, 0, head);
+        begin_block(store, self.tree, &self.memory, &inode)
+    }
+
     /// Makes an inode with these bytes in its block, and its first name.
     fn make<S: Store>(
         &mut self,
@@ -84,12 +122,17 @@ impl Volume {
             .touched
             .reserve(1)
             .map_err(|error| lacks_memory(error))?;
+        memory
+            .orphans
+            .reserve(1)
+            .map_err(|error| lacks_memory(error))?;
         if let Err(fault) = carry_out(alloc, store, tree.fs, &MakingNew { plan, name }) {
             return Err(fault);
         }
         let now = now_times(memory);
-        touch(&mut memory.touched, directory, now);
-        memory.hint = plan.number.saturating_add(1);
+        touch_naming(&mut memory.touched, now, directory, &plan.commit.naming);
+        note_replaced(&mut memory.orphans, &plan.commit.naming);
+        memory.hint = plan.commit.number.saturating_add(1);
         Ok(plan)
     }
 
@@ -110,7 +153,7 @@ impl Volume {
     {
         let inode = new_block(self.tree, &self.memory, Kind::File, attributes, 0, &[]);
         match self.make(alloc, store, directory, name, &inode) {
-            Ok(plan) => Ok(plan.number),
+            Ok(plan) => Ok(plan.commit.number),
             Err(fault) => Err(fault),
         }
     }
@@ -140,7 +183,7 @@ impl Volume {
             target,
         );
         match self.make(alloc, store, directory, name, &inode) {
-            Ok(plan) => Ok(plan.number),
+            Ok(plan) => Ok(plan.commit.number),
             Err(fault) => Err(fault),
         }
     }
@@ -151,7 +194,12 @@ impl Volume {
     {
         let fs = self.tree.fs;
         let memory = &mut self.memory;
-        memory.last_dir = record_entry(store, fs, plan.directory, &plan.addition, memory.last_dir);
+        let CommitPlan {
+            directory,
+            naming,
+            ..
+        } = &plan.commit;
+        memory.last_dir = naming_entry(store, fs, *directory, naming, memory.last_dir);
     }
 
     /// Makes an empty directory in another one, and answers its number. The faults are those of `create`.
@@ -178,7 +226,7 @@ impl Volume {
         match self.make(alloc, store, directory, name, &inode) {
             Ok(plan) => {
                 self.note_directory(store, &plan);
-                Ok(plan.number)
+                Ok(plan.commit.number)
             }
             Err(fault) => Err(fault),
         }

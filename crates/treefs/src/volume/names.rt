@@ -1,15 +1,16 @@
 // The calls on names.
 
-ghost use Rattle.std.specs.Prelude.{◌≡◌};
+ghost use Rattle.std.specs.Prelude.{◌≡◌, Ok};
+ghost use Rattle.treefs_edits.specs.Plans.{Does};
 ghost use Rattle.treefs.specs.Linking.{LinkDoes};
-ghost use Rattle.treefs.specs.Unlinking.{UnlinkDoes};
+ghost use Rattle.treefs.specs.Unlinking.{RmdirDoes, UnlinkDoes, ended_volume};
 
 use crate::memory::{note_orphan, now_times, record_entry, touch_end, touch_link};
 use crate::volume::Volume;
 use std::alloc::Global;
-use treefs_edits::{carry_out, lacks_memory};
+use treefs_edits::{Planned, carry_out, lacks_memory};
 use treefs_model::Fault;
-use treefs_name_plans::{Linking, plan_link, plan_unlink};
+use treefs_name_plans::{Linking, NameEnd, plan_link, plan_rmdir, plan_unlink};
 use xn_state::Store;
 
 impl Volume {
@@ -26,9 +27,46 @@ impl Volume {
         ensures types { S.types_of store.new ≡ S.types_of store.old }
         ensures does { UnlinkDoes (S.types_of store.old) (S.state_of store.old) (S.state_of store.new) self.old self.new directory name.now result }
     {
+        match plan_unlink(store, self.tree, &self.memory, directory, name) {
+            Ok(plan) => self.end_name(alloc, store, directory, &plan, &plan.end),
+            Err(fault) => Err(fault),
+        }
+    }
+
+    /// Takes the name of an empty directory out of another one; its inode is an orphan then. The faults are, in this order, those of the directory
+    /// (`NoEntry`, `NotDir`, `NoEntry` where it has no link), `BadName`, `NoEntry`, `NotDir`, `NotEmpty`, `Full`. `Kernel` comes for want of
+    /// memory, where nothing is done, or where the store refuses an edit.
+    pub fn rmdir<S: Store>(
+        &mut self,
+        alloc: Global,
+        store: &mut S,
+        directory: u32,
+        name: &[u8],
+    ) -> Result<(), Fault>
+        ensures types { S.types_of store.new ≡ S.types_of store.old }
+        ensures does { RmdirDoes (S.types_of store.old) (S.state_of store.old) (S.state_of store.new) self.old self.new directory name.now result }
+    {
+        match plan_rmdir(store, self.tree, &self.memory, directory, name) {
+            Ok(plan) => self.end_name(alloc, store, directory, &plan, &plan.end),
+            Err(fault) => Err(fault),
+        }
+    }
+
+    /// Ends a name of a directory, as it was planned.
+    fn end_name<S: Store, P: Planned>(
+        &mut self,
+        alloc: Global,
+        store: &mut S,
+        directory: u32,
+        planned: &P,
+        end: &NameEnd,
+    ) -> Result<(), Fault>
+        ensures types { S.types_of store.new ≡ S.types_of store.old }
+        ensures does { Does (S.types_of store.old) self.old.tree.fs.number (P.plan planned.now) (S.state_of store.old) (S.state_of store.new) result }
+        ensures volume { self.new ≡ ended_volume self.old directory (Ok end.now) result }
+    {
         let tree = self.tree;
         let memory = &mut self.memory;
-        let plan = plan_unlink(store, tree, memory, directory, name)?;
         memory
             .touched
             .reserve(1)
@@ -37,10 +75,10 @@ impl Volume {
             .orphans
             .reserve(1)
             .map_err(|error| lacks_memory(error))?;
-        carry_out(alloc, store, tree.fs, &plan)?;
+        carry_out(alloc, store, tree.fs, planned)?;
         let now = now_times(memory);
-        touch_end(&mut memory.touched, now, directory, &plan);
-        note_orphan(&mut memory.orphans, &plan);
+        touch_end(&mut memory.touched, now, directory, end);
+        note_orphan(&mut memory.orphans, end);
         Ok(())
     }
 

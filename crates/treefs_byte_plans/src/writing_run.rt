@@ -1,0 +1,224 @@
+// How a run of missing leaves is carried out.
+
+ghost use Rattle.std.specs.Prelude.{◌≡◌, ◌+◌, ◌-◌, ◌*◌, ◌^◌, ◌<◌, ◌≤◌, ◌++◌, length, IfOk};
+ghost use Rattle.treefs_byte_plans.specs.Fields.{size_acts};
+ghost use Rattle.treefs_byte_plans.specs.Runs.{IsRun, attach_acts, holder_acts, leaf_of, leaf_starts, own_act, run_acts_of, run_path, run_plan, run_waits};
+
+use crate::fields::{raise_size, size_patch};
+use crate::run_plan::RunPlan;
+use arrayvec::ArrayVec;
+use std::alloc::{AllocError, Global};
+use treefs_edits::fronts::{behind, front};
+use treefs_edits::missing::missing_path;
+use treefs_edits::nodes::{last_or_owner, push_node_acts, push_node_starts};
+use treefs_edits::{Act, Planned, Start, kinds};
+use treefs_lookup::pointer_offset;
+
+/// The type of leaves.
+const LEAF: u8 = 2;
+
+/// How many bytes a leaf has.
+const LEAF_LEN: usize = 512;
+
+/// How many pointers to leaves stand in an inode.
+const OWN_LEAVES: u32 = 16;
+
+/// How many pointers an edit sets at most.
+const POINTERS: u32 = 16;
+
+/// A run of missing leaves, with its bytes.
+#[derive(Clone, Copy, Debug)]
+pub struct WritingRun<'a> {
+    /// What it takes.
+    pub plan: RunPlan,
+    /// The bytes, and perhaps more behind them.
+    pub bytes: &'a [u8],
+    ghost is: { IsRun plan },
+}
+
+/// A leaf with some bytes from a place on, and zeros.
+fn leaf_of(place: usize, bytes: &[u8]) -> [u8; 512]
+    requires { place + length bytes.now ≤ 512 }
+    ensures { result ≡ leaf_of place bytes.now }
+{
+    let mut leaf = [0; LEAF_LEN];
+    leaf[place..place + bytes.len()].copy_from_slice(bytes);
+    leaf
+}
+
+/// Adds so many leaves of some bytes, of which the first stands at a place of the first leaf.
+fn push_leaf_starts(
+    starts: &mut Vec<Start>,
+    count: u32,
+    place: usize,
+    bytes: &[u8],
+) -> Result<(), AllocError>
+    requires { place ≤ 512 }
+    ensures { IfOk result (λ _. starts.new.items ≡ starts.old.items ++ leaf_starts count place bytes.now) }
+{
+    let mut left = count;
+    let mut place = place;
+    let mut rest = bytes;
+    while left > 0 {
+        starts.push(Start {
+            ty: u32::from(LEAF),
+            bytes: leaf_of(place, front(rest, LEAF_LEN - place)),
+        })?;
+        rest = behind(rest, LEAF_LEN - place);
+        place = 0;
+        left -= 1;
+    }
+    Ok(())
+}
+
+/// Adds so many edits that attach leaves, each up to 16, from an offset of a block on.
+fn push_attach_acts(
+    alloc: Global,
+    acts: &mut Vec<Act>,
+    edits: u32,
+    holder: u32,
+    offset: u16,
+    leaves: &[u32],
+) -> Result<(), AllocError>
+    requires { offset + 64 * edits < 2 ^ 16 }
+    ensures { IfOk result (λ _. acts.new.items ≡ acts.old.items ++ attach_acts edits holder offset leaves.now) }
+{
+    let mut left = edits;
+    let mut offset = offset;
+    let mut rest = leaves;
+    while left > 0 {
+        let some = front(rest, POINTERS as usize);
+        acts.push(kinds::attach(alloc, holder, offset, u32::from(LEAF), some, None)?)?;
+        rest = behind(rest, POINTERS as usize);
+        offset += 64;
+        left -= 1;
+    }
+    Ok(())
+}
+
+impl RunPlan {
+    /// The pointers that are missing on the path to the first leaf.
+    fn path(&self) -> ArrayVec<u16, 5>
+        ensures { result.items ≡ run_path self.now }
+    {
+        missing_path(self.leaf, self.missing)
+    }
+
+    /// How many of them lead to nodes.
+    fn node_count(&self) -> usize
+        ensures { result ≡ self.now.missing - 1 }
+    {
+        self.missing.saturating_sub(1)
+    }
+
+    /// The edit that attaches leaves to the inode itself, and raises the size too.
+    fn own_act(
+        &self,
+        alloc: Global,
+        holder: u32,
+        offset: u16,
+        leaves: &[u32],
+    ) -> Result<Act, AllocError>
+        ensures { IfOk result (λ act. act ≡ own_act self.now holder offset leaves.now) }
+    {
+        let ty = u32::from(LEAF);
+        let act = kinds::attach(alloc, holder, offset, ty, leaves, None)?;
+        match self.size {
+            Some(size) => act.with_patch(size_patch(alloc, size, self.times)?),
+            None => Ok(act),
+        }
+    }
+
+    /// Adds the act by which the size rises, where it does.
+    fn push_size_act(
+        &self,
+        alloc: Global,
+        acts: &mut Vec<Act>,
+        holder: u32,
+    ) -> Result<(), AllocError>
+        ensures { IfOk result (λ _. acts.new.items ≡ acts.old.items ++ size_acts self.now.inode holder self.now.size self.now.times) }
+    {
+        if let Some(size) = self.size {
+            acts.push(raise_size(alloc, self.inode, size, self.times, holder)?)?;
+        }
+        Ok(())
+    }
+
+    /// Adds the wait of the inode for the block with the pointers, where there is one.
+    fn push_wait(&self, alloc: Global, acts: &mut Vec<Act>, holder: u32) -> Result<(), AllocError>
+        ensures { IfOk result (λ _. acts.new.items ≡ acts.old.items ++ run_waits self.now holder) }
+    {
+        if self.waits {
+            acts.push(kinds::wait(alloc, self.inode, self.first, holder)?)?;
+        }
+        Ok(())
+    }
+
+    /// Adds the acts by which leaves are attached, and the size rises.
+    fn push_holder_acts(
+        &self,
+        alloc: Global,
+        acts: &mut Vec<Act>,
+        holder: u32,
+        offset: u16,
+        leaves: &[u32],
+    ) -> Result<(), AllocError>
+        requires few { self.now.count ≤ 127 }
+        requires within { offset ≤ 512 }
+        ensures { IfOk result (λ _. acts.new.items ≡ acts.old.items ++ holder_acts self.now holder offset leaves.now) }
+    {
+        if self.leaf < OWN_LEAVES {
+            acts.push(self.own_act(alloc, holder, offset, leaves)?)?;
+            return Ok(());
+        }
+        let edits = self.count.div_ceil(POINTERS);
+        push_attach_acts(alloc, acts, edits, holder, offset, leaves)?;
+        self.push_size_act(alloc, acts, holder)?;
+        self.push_wait(alloc, acts, holder)
+    }
+
+    /// The acts, where these nodes and leaves were begun.
+    fn acts_of(&self, alloc: Global, nodes: &[u32], leaves: &[u32]) -> Result<Vec<Act>, AllocError>
+        requires { IsRun self.now }
+        ensures { IfOk result (λ acts. acts.items ≡ run_acts_of self.now nodes.now leaves.now) }
+    {
+        let offsets = self.path();
+        let count = self.node_count();
+        let holder = last_or_owner(self.owner, nodes);
+        let mut acts = Vec::new(alloc);
+        push_node_acts(
+            alloc,
+            &mut acts,
+            self.node_type,
+            LEAF,
+            self.owner,
+            front(offsets.as_slice(), count),
+            nodes,
+        )?;
+        let offset = pointer_offset(self.leaf);
+        self.push_holder_acts(alloc, &mut acts, holder, offset, leaves)?;
+        Ok(acts)
+    }
+}
+
+impl<'a> Planned for WritingRun<'a> {
+    ghost plan = { λ writing. run_plan writing.bytes.now writing.plan };
+
+    fn starts(&self, alloc: Global) -> Result<Vec<Start>, AllocError> {
+        let plan = &self.plan;
+        let offsets = plan.path();
+        let nodes = front(offsets.as_slice(), plan.node_count());
+        let mut starts = Vec::new(alloc);
+        push_node_starts(&mut starts, plan.node_type, LEAF, nodes)?;
+        let place = (plan.at % 512) as usize;
+        push_leaf_starts(&mut starts, plan.count, place, self.bytes)?;
+        Ok(starts)
+    }
+
+    fn acts(&self, alloc: Global, begun: &[u32]) -> Result<Vec<Act>, AllocError> {
+        let plan = &self.plan;
+        let offsets = plan.path();
+        let nodes = front(offsets.as_slice(), plan.node_count()).len();
+        plan.acts_of(alloc, front(begun, nodes), behind(begun, nodes))
+    }
+}

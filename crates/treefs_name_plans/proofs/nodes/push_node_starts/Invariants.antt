@@ -1,9 +1,0 @@
-use Rattle.std.proofs.Common.{◌≡◌, ◌++◌, length}
-use Rattle.treefs_name_plans.specs.NewPlans.{node_starts}
-use Rattle.treefs_name_plans.proofs.nodes.push_node_starts.Given as goal
-
-abbrev pub invariant-loop-rest : goal.invariant-loop-rest
-invariant-loop-rest l = l.starts.items ++ node_starts l.node_type l.inode_type l.rest ≡ l.fn.starts.items ++ node_starts l.node_type l.inode_type l.offsets
-
-abbrev pub decreases-loop-rest : goal.decreases-loop-rest
-decreases-loop-rest l = length l.rest

@@ -1,0 +1,12 @@
+// A name that is to move.
+
+use crate::ended::Ended;
+
+/// A name that is to move.
+#[derive(Clone, Copy, Debug)]
+pub struct Moved {
+    /// The old name.
+    pub old: Ended,
+    /// The inode block of the directory of the new one.
+    pub directory: u32,
+}

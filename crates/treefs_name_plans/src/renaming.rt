@@ -1,0 +1,142 @@
+// How a name's move is carried out.
+
+ghost use Rattle.std.specs.Prelude.{◌≡◌, ◌≤◌, ◌++◌, length, IfOk};
+ghost use Rattle.treefs_name_plans.specs.RenamePlans.{apart_acts, both_act, moving_acts, naming_patches, rename_plan};
+
+use crate::addition::Addition;
+use crate::naming::Naming;
+use crate::rename_plan::{LinksBetween, Moving, RenamePlan};
+use edit_list::{Edit, Patch};
+use std::alloc::{AllocError, Global};
+use treefs_edits::{Act, Planned, Start, kinds};
+use treefs_format::records::append_record;
+
+/// A name moves.
+#[derive(Clone, Copy, Debug)]
+pub struct Renaming<'a> {
+    /// What it takes.
+    pub plan: RenamePlan,
+    /// The new name.
+    pub name: &'a [u8],
+    ghost short: { length name.now ≤ 255 },
+}
+
+impl Naming {
+    /// Adds the patch that makes a name lead to an inode, where its record stands in a block that is there.
+    fn push_patches(
+        &self,
+        alloc: Global,
+        patches: &mut Vec<Patch>,
+        number: u32,
+        name: &[u8],
+    ) -> Result<(), AllocError>
+        requires { length name.now ≤ 255 }
+        ensures { IfOk result (λ _. patches.new.items ≡ patches.old.items ++ naming_patches self.now (record { number = number; name = name.now })) }
+    {
+        let mut bytes = Vec::new(alloc);
+        let offset = match self {
+            Naming::Added(Addition::Made(_)) => return Ok(()),
+            Naming::Added(Addition::Behind(_, offset)) => {
+                append_record(&mut bytes, number, name)?;
+                *offset
+            }
+            Naming::Added(Addition::Rewritten(old)) => {
+                append_record(&mut bytes, number, name)?;
+                old.offset
+            }
+            Naming::Replaced(end) => {
+                bytes.extend_from_slice(&number.to_le_bytes())?;
+                end.offset
+            }
+        };
+        patches.push(Patch { offset, bytes })?;
+        Ok(())
+    }
+}
+
+impl RenamePlan {
+    /// The act that takes the one name for the other.
+    fn both(&self, alloc: Global, name: &[u8]) -> Result<Act, AllocError>
+        requires { length name.now ≤ 255 }
+        ensures { IfOk result (λ act. act ≡ both_act self.now (record { number = self.now.number; name = name.now })) }
+    {
+        let ended = Patch {
+            offset: self.offset,
+            bytes: 0u32.to_le_bytes().to_vec(alloc)?,
+        };
+        let mut patches = Vec::from_array(alloc, [ended])?;
+        self.naming
+            .push_patches(alloc, &mut patches, self.number, name)?;
+        Ok(Act {
+            block: self.block,
+            edit: Edit {
+                patches,
+                adds: Vec::new(alloc),
+                drops: Vec::new(alloc),
+                after: None,
+            },
+            behind: Some(self.inode),
+        })
+    }
+
+    /// Adds the acts by which the inode has both names for a while.
+    fn push_apart(
+        &self,
+        alloc: Global,
+        acts: &mut Vec<Act>,
+        links: &LinksBetween,
+        begun: &[u32],
+        name: &[u8],
+    ) -> Result<(), AllocError>
+        requires { length name.now ≤ 255 }
+        ensures { IfOk result (λ _. acts.new.items
+            ≡ acts.old.items ++ apart_acts self.now links.now begun.now (record { number = self.now.number; name = name.now })) }
+    {
+        acts.push(links.more.act(alloc, links.behind)?)?;
+        self.naming
+            .push_acts(alloc, acts, begun, self.number, name, self.inode)?;
+        let behind = Some(self.naming.block(begun));
+        acts.push(kinds::set_number(alloc, self.block, self.offset, 0, behind)?)?;
+        acts.push(links.less.act(alloc, self.block)?)?;
+        Ok(())
+    }
+
+    /// Adds the acts by which the one name is taken for the other.
+    fn push_moving(
+        &self,
+        alloc: Global,
+        acts: &mut Vec<Act>,
+        begun: &[u32],
+        name: &[u8],
+    ) -> Result<(), AllocError>
+        requires { length name.now ≤ 255 }
+        ensures { IfOk result (λ _. acts.new.items
+            ≡ acts.old.items ++ moving_acts self.now self.now.moving begun.now (record { number = self.now.number; name = name.now })) }
+    {
+        match &self.moving {
+            Moving::Together(_) => {
+                acts.push(self.both(alloc, name)?)?;
+                Ok(())
+            }
+            Moving::Apart(links) => self.push_apart(alloc, acts, links, begun, name),
+        }
+    }
+}
+
+impl<'a> Planned for Renaming<'a> {
+    ghost plan = { λ renaming. rename_plan renaming.name.now renaming.plan };
+
+    fn starts(&self, alloc: Global) -> Result<Vec<Start>, AllocError> {
+        let mut starts = Vec::new(alloc);
+        self.plan.naming.push_starts(&mut starts)?;
+        Ok(starts)
+    }
+
+    fn acts(&self, alloc: Global, begun: &[u32]) -> Result<Vec<Act>, AllocError> {
+        let mut acts = Vec::new(alloc);
+        self.plan.naming.push_rewriting(alloc, &mut acts)?;
+        self.plan.push_moving(alloc, &mut acts, begun, self.name)?;
+        self.plan.naming.push_ends(alloc, &mut acts)?;
+        Ok(acts)
+    }
+}
