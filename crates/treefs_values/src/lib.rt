@@ -1,0 +1,5 @@
+//! What edits make of the files of a volume: laws, without code.
+//! May touch: nothing.
+#![tactic(auto)]
+
+pub mod law;
