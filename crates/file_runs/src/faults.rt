@@ -1,19 +1,24 @@
 // Each fault of a volume's calls.
 
+use crate::out::{Out, Value};
+use crate::pair::{Pair, Step, Told};
 use ffs_lib::{FfsFault, Fs};
-use std::alloc::Global;
-use std::io;
-use volume_pair::{Action, Answer, Disk, Files};
+use volume_pair::Action;
 use xn_model::Refusal;
 
-/// How many calls are refused.
-const CASES: usize = 31;
+/// What stands before these calls: inode 2 is the file `f`, inode 3 the directory `d`, which has an entry.
+static BEFORE: [Step<'static>; 4] = [
+    Step::Open,
+    Step::Call(Action::Create(1, b"f")),
+    Step::Call(Action::Mkdir(1, b"d")),
+    Step::Call(Action::Create(3, b"x")),
+];
 
 /// A name of 29 bytes.
 const LONG: &[u8] = b"a name of twenty-nine bytes..";
 
-/// Calls and their faults. Inode 2 is the file `f`, inode 3 the directory `d`, which has an entry.
-static FAULTS: [(Action<'static>, FfsFault); CASES] = [
+/// Calls and their faults.
+static FAULTS: [(Action<'static>, FfsFault); 31] = [
     (Action::Create(0, b"x"), FfsFault::NoEntry),
     (Action::Create(9, b"x"), FfsFault::NoEntry),
     (Action::Create(129, b"x"), FfsFault::NoEntry),
@@ -47,69 +52,58 @@ static FAULTS: [(Action<'static>, FfsFault); CASES] = [
     (Action::Replace(1, b"d", 3, b"x"), FfsFault::IsDir),
 ];
 
-/// Makes calls that are refused, and prints how many of them were as they should.
-pub fn print_faults<S: Disk + Drop>(
-    rt: &impl Print,
-    alloc: Global,
-    files: &mut Files<S>,
-    fs: Fs,
-) -> io::Result<()> {
-    let none = files.open(fs) == Err(FfsFault::NoEntry);
-    let _ = files.make(alloc, fs);
-    let _ = files.drain();
-    let again = files.make(alloc, fs) == Err(FfsFault::Exists);
-    let _ = files.open(fs);
-    for action in &[
-        Action::Create(1, b"f"),
-        Action::Mkdir(1, b"d"),
-        Action::Create(3, b"x"),
-    ] {
-        let _ = files.call(alloc, fs, action);
-    }
-    let mut right = 0u32;
+/// Makes calls that are refused, and tells how many of them were as they should.
+pub fn tell_faults(pair: &mut Pair, fs: Fs, out: &mut Out) {
+    let is_none = pair.take(fs, &Step::Open) == Err(FfsFault::NoEntry);
+    pair.take_all(fs, &[Step::Make, Step::Drain]);
+    let is_again = pair.take(fs, &Step::Make) == Err(FfsFault::Exists);
+    pair.take_all(fs, &BEFORE);
+    let mut right = 0u64;
     for (action, fault) in &FAULTS {
-        if files.call(alloc, fs, action) == Err(*fault) {
+        if pair.call(fs, *action) == Err(*fault) {
             right = right.wrapping_add(1);
         }
     }
-    println!(rt; "no volume {none}, a second one {again}, faults {right} of {CASES}")?;
-    print_refusals(rt, alloc, files, fs)
+    let values = [
+        Value::Truth(is_none),
+        Value::Truth(is_again),
+        Value::Number(right),
+    ];
+    out.tell("no volume {}, a second one {}, faults {} of 31\n", &values);
+    tell_refusals(pair, fs, out);
 }
 
 /// Writes a byte at one place after another, so far apart, with a drain after each or not, until the store refuses it. Answers how
 /// many writes were done, and the refusal.
-fn write_on<S: Disk + Drop>(
-    alloc: Global,
-    files: &mut Files<S>,
-    fs: Fs,
-    apart: u32,
-    drains: bool,
-) -> (u32, Answer) {
+fn write_on(pair: &mut Pair, fs: Fs, apart: u32, drains: bool) -> (u64, Told) {
+    let mut told = Ok(0);
     for i in 0..100u32 {
-        let answer = files.call(alloc, fs, &Action::Write(2, i.wrapping_mul(apart), b"x"));
-        if answer.is_err() {
-            return (i, answer);
+        told = pair.call(fs, Action::Write(2, i.wrapping_mul(apart), b"x"));
+        if told.is_err() {
+            return (u64::from(i), told);
         }
         if drains {
-            let _ = files.drain();
+            let _ = pair.take(fs, &Step::Drain);
         }
     }
-    (100, Ok(0))
+    (100, told)
 }
 
-/// Prints after how many writes the store refuses one: for the edits that a block has pending, and for want of blocks.
-fn print_refusals<S: Disk + Drop>(
-    rt: &impl Print,
-    alloc: Global,
-    files: &mut Files<S>,
-    fs: Fs,
-) -> io::Result<()> {
-    let (writes, refused) = write_on(alloc, files, fs, 1, false);
-    let many = refused == Err(FfsFault::Kernel(Refusal::TooManyPending));
-    let _ = files.drain();
-    let (blocks, refused) = write_on(alloc, files, fs, 512, true);
-    let full = refused == Err(FfsFault::Kernel(Refusal::NoSpace));
-    println!(rt;
-        "after {writes} writes too many are pending: {many}; after {blocks} blocks there is no space: {full}"
-    )
+/// Tells after how many writes the store refuses one: for the edits that a block has pending, and for want of blocks.
+fn tell_refusals(pair: &mut Pair, fs: Fs, out: &mut Out) {
+    let (writes, refused) = write_on(pair, fs, 1, false);
+    let is_many = refused == Err(FfsFault::Kernel(Refusal::TooManyPending));
+    let _ = pair.take(fs, &Step::Drain);
+    let (blocks, refused) = write_on(pair, fs, 512, true);
+    let is_full = refused == Err(FfsFault::Kernel(Refusal::NoSpace));
+    let values = [
+        Value::Number(writes),
+        Value::Truth(is_many),
+        Value::Number(blocks),
+        Value::Truth(is_full),
+    ];
+    out.tell(
+        "after {} writes too many are pending: {}; after {} blocks there is no space: {}\n",
+        &values,
+    );
 }

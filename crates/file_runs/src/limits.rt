@@ -1,12 +1,10 @@
 // Sizes: of files, of directories, and of a volume.
 
-use crate::text::print_answer;
+use crate::out::{Out, Value};
+use crate::pair::{Event, Pair, Step, Told};
 use ffs_lib::{FfsFault, Fs};
-use std::alloc::Global;
-use std::io;
 use std::thread::Threads;
-use volume_pair::{Action, Disk, Files};
-use world::Running;
+use volume_pair::Action;
 
 /// How many bytes a write has, so that no block gets too many edits before it is written.
 const CHUNK: usize = 4096;
@@ -17,35 +15,23 @@ const CHUNKS: u32 = 18;
 /// How many bytes a file has at most.
 const MOST: u32 = 71_680;
 
-/// The byte of a file at an offset.
-fn byte_at(offset: u32) -> u8 {
-    ((offset / 512 * 31 + offset % 512) % 251) as u8
-}
-
 /// The bytes of a file from an offset on.
 fn bytes_at(offset: u32) -> [u8; CHUNK] {
     let mut bytes = [0; CHUNK];
-    for (i, byte) in bytes.iter_mut().enumerate() {
-        *byte = byte_at(offset.wrapping_add((i & 0xffff) as u32));
+    let mut at = offset;
+    for byte in bytes.iter_mut() {
+        *byte = ((at / 512 * 31 + at % 512) % 251) as u8;
+        at = at.wrapping_add(1);
     }
     bytes
 }
 
-/// How many blocks are free once all is written.
-fn free<S: Disk + Drop>(files: &mut Files<S>) -> u32 {
-    let _ = files.drain();
-    match files.store() {
-        Some(store) => store.free(),
-        None => 0,
-    }
-}
-
 /// Whether a file is read as it was written.
-fn is_as_written<S: Disk + Drop>(files: &mut Files<S>, fs: Fs, inode: u16) -> bool {
+fn is_as_written(pair: &mut Pair, fs: Fs, inode: u16) -> bool {
     for chunk in 0..CHUNKS {
         let offset = 4096 * chunk;
         let mut bytes = [0; CHUNK];
-        let length = files.read(fs, inode, offset, &mut bytes);
+        let length = pair.read(fs, inode, offset, &mut bytes);
         let rest = ((MOST - offset) as usize).min(CHUNK);
         if length != Ok(rest) || bytes[..rest] != bytes_at(offset)[..rest] {
             return false;
@@ -55,144 +41,132 @@ fn is_as_written<S: Disk + Drop>(files: &mut Files<S>, fs: Fs, inode: u16) -> bo
 }
 
 /// Writes a file as large as one may be.
-fn fill_file<S: Disk + Drop>(
-    alloc: Global,
-    files: &mut Files<S>,
-    fs: Fs,
-    inode: u16,
-) -> Result<u16, FfsFault> {
+fn fill_file(pair: &mut Pair, fs: Fs, inode: u16) -> bool {
     for chunk in 0..CHUNKS {
         let offset = 4096 * chunk;
         let rest = ((MOST - offset) as usize).min(CHUNK);
         let bytes = bytes_at(offset);
-        let _ = files.call(alloc, fs, &Action::Write(inode, offset, &bytes[..rest]))?;
-        let _ = files.drain();
+        let is_written = pair
+            .call(fs, Action::Write(inode, offset, &bytes[..rest]))
+            .is_ok();
+        let _ = pair.take(fs, &Step::Drain);
+        if !is_written {
+            return false;
+        }
     }
-    Ok(0)
+    true
+}
+
+/// Tells what a call answered.
+fn tell_answer(out: &mut Out, call: &str, told: Told) {
+    let call = Value::Text(call);
+    match told {
+        Ok(_) => out.tell("{}: done\n", &[call]),
+        Err(fault) => out.tell("{}: {}\n", &[call, Value::Fault(fault)]),
+    }
 }
 
 /// A file grows to the most that it may have, and no further.
-pub fn print_file<S: Disk + Drop>(
-    rt: &impl Print,
-    alloc: Global,
-    files: &mut Files<S>,
-    fs: Fs,
-) -> io::Result<()> {
-    let _ = files.make(alloc, fs);
-    let inode = files
-        .call(alloc, fs, &Action::Create(1, b"large"))
-        .unwrap_or(0);
-    let before = free(files);
-    let filled = fill_file(alloc, files, fs, inode).is_ok();
-    let blocks = before.wrapping_sub(free(files));
-    let same = is_as_written(files, fs, inode);
-    println!(rt;
-        "a file of {MOST} bytes: written {filled}, {blocks} blocks, read as written {same}"
-    )?;
-    let more = files.call(alloc, fs, &Action::Write(inode, MOST, b"x"));
-    print_answer(rt, "one byte more", more)?;
-    let _ = files.call(alloc, fs, &Action::Unlink(1, b"large"));
-    let left = before.wrapping_sub(free(files));
-    println!(rt; "unlinked: {left} blocks more than before it was written")
+pub fn tell_file(pair: &mut Pair, fs: Fs, out: &mut Out) {
+    let _ = pair.take(fs, &Step::Make);
+    let inode = inode_of(pair.call(fs, Action::Create(1, b"large")));
+    let before = pair.free(fs);
+    let is_filled = fill_file(pair, fs, inode);
+    let blocks = before.wrapping_sub(pair.free(fs));
+    let is_same = is_as_written(pair, fs, inode);
+    let values = [
+        Value::Number(u64::from(MOST)),
+        Value::Truth(is_filled),
+        Value::Number(blocks),
+        Value::Truth(is_same),
+    ];
+    out.tell(
+        "a file of {} bytes: written {}, {} blocks, read as written {}\n",
+        &values,
+    );
+    let more = pair.call(fs, Action::Write(inode, MOST, b"x"));
+    tell_answer(out, "one byte more", more);
+    let _ = pair.call(fs, Action::Unlink(1, b"large"));
+    let left = before.wrapping_sub(pair.free(fs));
+    out.tell(
+        "unlinked: {} blocks more than before it was written\n",
+        &[Value::Number(left)],
+    );
+}
+
+/// The inode that a call answered, or 0.
+pub fn inode_of(told: Told) -> u16 {
+    match told {
+        Ok(inode) => (inode & 0xffff) as u16,
+        Err(_) => 0,
+    }
 }
 
 /// A name of 28 bytes that ends with a number.
 fn long_name(number: u16) -> [u8; 28] {
     let mut name = *b"a name of twenty-eight by000";
-    let digits = [number / 100 % 10, number / 10 % 10, number % 10];
-    for (i, digit) in digits.iter().enumerate() {
-        if let Some(place) = name.get_mut(i.wrapping_add(25)) {
-            *place = b'0' + (*digit % 10) as u8;
-        }
-    }
+    name[25] = b'0' + (number / 100 % 10) as u8;
+    name[26] = b'0' + (number / 10 % 10) as u8;
+    name[27] = b'0' + (number % 10) as u8;
     name
 }
 
-/// The first block of a directory whose inode stands in the first inode block.
-fn first_block<S: Disk + Drop>(files: &Files<S>, fs: Fs, directory: u16) -> Option<u32> {
-    crate::scan::block_of(files.store()?, fs, directory, 0)
-}
-
 /// Gives a file of a directory another name there, and crashes before the write by which the old one goes. Both are left.
-fn name_twice(
+fn is_named_twice(
     rt: &(impl Threads + Sync),
-    alloc: Global,
-    files: &mut Files<Running>,
+    pair: &mut Pair,
     fs: Fs,
     name: &[u8],
     new_name: &[u8],
 ) -> bool {
-    let kept = first_block(files, fs, 2);
-    let renamed = files
-        .call(alloc, fs, &Action::Rename(2, name, 2, new_name))
-        .is_ok();
+    let kept = pair.first_block(fs, 2);
+    let is_renamed = pair.call(fs, Action::Rename(2, name, 2, new_name)).is_ok();
     for _ in 0..8 {
-        match files.pick() {
-            Some(block) if Some(block) != kept => {
-                let _ = files.write(block);
-            }
-            _ => break,
+        let block = pair.pick();
+        if block == kept {
+            break;
+        }
+        if let Some(block) = block {
+            let _ = pair.happens(Event::Write(block));
         }
     }
-    let crashed = files.crash(rt, alloc, Vec::new(alloc)).is_some();
-    renamed && crashed && files.open(fs).is_ok()
+    let is_open = pair.is_open_after(rt, fs, &[]);
+    is_renamed && is_open
 }
 
-/// How many names a directory has.
-fn count_names<S: Disk + Drop>(
-    alloc: Global,
-    files: &mut Files<S>,
-    fs: Fs,
-    directory: u16,
-) -> usize {
-    match files.list(alloc, fs, directory) {
-        Ok(names) => names.len(),
-        Err(_) => 0,
-    }
-}
-
-/// Fills a directory: with files, and, as there are no more inodes than 128, with second names of them, which crashes leave.
-pub fn print_directory(
-    rt: &(impl Threads + Print + Sync),
-    alloc: Global,
-    files: &mut Files<Running>,
-    fs: Fs,
-) -> io::Result<()> {
-    let _ = files.make(alloc, fs);
-    let _ = files.call(alloc, fs, &Action::Mkdir(1, b"d"));
+/// Fills a directory: with files, and, as there are no more inodes than 128, with second names of them, which crashes leave. Tells what a full
+/// directory, and a volume without a free inode, answer.
+pub fn tell_directory(rt: &(impl Threads + Sync), pair: &mut Pair, fs: Fs, out: &mut Out) {
+    let _ = pair.take(fs, &Step::Make);
+    let _ = pair.call(fs, Action::Mkdir(1, b"d"));
     let mut last = 0;
     for number in 0..125 {
-        last = files
-            .call(alloc, fs, &Action::Create(2, &long_name(number)))
-            .unwrap_or(0);
-        let _ = files.drain();
+        last = inode_of(pair.call(fs, Action::Create(2, &long_name(number))));
+        let _ = pair.take(fs, &Step::Drain);
     }
-    println!(rt; "files of long names: the last inode is {last}")?;
-    let mut twice = 0u32;
+    out.tell(
+        "files of long names: the last inode is {}\n",
+        &[Value::Number(u64::from(last))],
+    );
+    let mut twice = 0u64;
     for number in 0..67 {
-        let new_name = long_name(number + 200);
-        if name_twice(rt, alloc, files, fs, &long_name(number % 16), &new_name) {
+        let (name, new_name) = (long_name(number % 16), long_name(number + 200));
+        if is_named_twice(rt, pair, fs, &name, &new_name) {
             twice = twice.wrapping_add(1);
         }
     }
-    let names = count_names(alloc, files, fs, 2);
-    println!(rt; "a directory of {names} names, {twice} of them after crashes")?;
-    print_full(rt, alloc, files, fs)
-}
-
-/// What a full directory, and a volume without a free inode, answer.
-fn print_full(
-    rt: &impl Print,
-    alloc: Global,
-    files: &mut Files<Running>,
-    fs: Fs,
-) -> io::Result<()> {
-    let more = files.call(alloc, fs, &Action::Create(2, b"more"));
-    print_answer(rt, "a name more", more)?;
-    let last = files
-        .call(alloc, fs, &Action::Create(1, b"last"))
-        .unwrap_or(0);
-    println!(rt; "elsewhere: inode {last}")?;
-    let none = files.call(alloc, fs, &Action::Create(1, b"none"));
-    print_answer(rt, "and once more", none)
+    let names = match pair.list(fs, 2) {
+        Ok(names) => names.len() as u64,
+        Err(_) => 0,
+    };
+    out.tell(
+        "a directory of {} names, {} of them after crashes\n",
+        &[Value::Number(names), Value::Number(twice)],
+    );
+    let more = pair.call(fs, Action::Create(2, b"more"));
+    tell_answer(out, "a name more", more);
+    let last = inode_of(pair.call(fs, Action::Create(1, b"last")));
+    out.tell("elsewhere: inode {}\n", &[Value::Number(u64::from(last))]);
+    let none = pair.call(fs, Action::Create(1, b"none"));
+    tell_answer(out, "and once more", none);
 }

@@ -1,8 +1,9 @@
 // A plain model of a volume: what its calls should answer and leave.
 
+use crate::pair::Told;
 use ffs_lib::FfsFault;
 use std::alloc::{AllocError, Global};
-use volume_pair::{Action, Answer};
+use volume_pair::Action;
 
 /// How many inodes there are.
 pub const INODES: usize = 128;
@@ -71,8 +72,12 @@ const GAP: Place = Place { inode: 0, name: 0 };
 
 /// Which of the names these bytes are.
 pub fn name_number(name: &[u8]) -> Option<u16> {
-    let place = NAMES.iter().position(|known| *known == name)?;
-    Some((place & 0xff) as u16)
+    for place in 0..NAMES.len() {
+        if NAMES[place] == name {
+            return Some(place as u16);
+        }
+    }
+    None
 }
 
 /// The index of an inode's first place or byte, of so many.
@@ -120,7 +125,7 @@ impl Plain {
     }
 
     /// A place of a directory.
-    pub fn place(&self, directory: u16, place: usize) -> Place {
+    fn place(&self, directory: u16, place: usize) -> Place {
         match self
             .places
             .get(start(directory, PLACES).wrapping_add(place))
@@ -140,67 +145,56 @@ impl Plain {
         }
     }
 
-    /// A byte of a file.
-    pub fn byte(&self, inode: u16, at: usize) -> u8 {
-        match self.bytes.get(start(inode, BYTES).wrapping_add(at)) {
-            Some(byte) => *byte,
-            None => 0,
-        }
-    }
-
     /// Sets bytes of a file.
     pub fn set_bytes(&mut self, inode: u16, at: usize, bytes: &[u8]) {
-        let first = start(inode, BYTES).wrapping_add(at);
-        for (i, byte) in bytes.iter().enumerate() {
-            if let Some(place) = self.bytes.get_mut(first.wrapping_add(i)) {
+        let mut at = start(inode, BYTES).wrapping_add(at);
+        for byte in bytes {
+            if let Some(place) = self.bytes.get_mut(at) {
                 *place = *byte;
             }
+            at = at.wrapping_add(1);
         }
     }
 
-    /// Sets the bytes of an inode between two places to 0.
-    fn clear_bytes(&mut self, inode: u16, from: usize, to: usize) {
-        for at in from..to {
-            self.set_bytes(inode, at, &[0]);
+    /// The first place of a directory with a name, or without any.
+    fn find(&self, directory: u16, name: Option<u16>) -> Option<usize> {
+        for place in 0..PLACES {
+            let entry = self.place(directory, place);
+            let is_it = match name {
+                Some(name) => entry.inode != 0 && entry.name == name,
+                None => entry.inode == 0,
+            };
+            if is_it {
+                return Some(place);
+            }
         }
-    }
-
-    /// The place of a directory that has a name.
-    fn find(&self, directory: u16, name: u16) -> Option<usize> {
-        (0..PLACES).find(|place| {
-            let entry = self.place(directory, *place);
-            entry.inode != 0 && entry.name == name
-        })
-    }
-
-    /// The first place of a directory without a name.
-    fn gap(&self, directory: u16) -> Option<usize> {
-        (0..PLACES).find(|place| self.place(directory, *place).inode == 0)
+        None
     }
 
     /// Whether a directory has a name.
     pub fn has_name(&self, directory: u16, name: &[u8]) -> bool {
         match name_number(name) {
-            Some(name) => self.find(directory, name).is_some(),
+            Some(name) => self.find(directory, Some(name)).is_some(),
             None => false,
         }
     }
 
     /// How many names an inode has.
-    fn names_of(&self, inode: u16) -> usize {
-        self.places
-            .iter()
-            .filter(|entry| entry.inode == inode)
-            .count()
+    fn count_names(&self, inode: u16) -> u16 {
+        let mut count = 0u16;
+        for entry in &self.places {
+            if entry.inode == inode {
+                count = count.saturating_add(1);
+            }
+        }
+        count
     }
 
     /// Whether each name has an inode in use, with links enough.
     pub fn is_sound(&self) -> bool {
         for entry in &self.places {
             let node = self.node(entry.inode);
-            if entry.inode != 0
-                && (node.mode == 0 || usize::from(node.links) < self.names_of(entry.inode))
-            {
+            if entry.inode != 0 && (node.mode == 0 || node.links < self.count_names(entry.inode)) {
                 return false;
             }
         }
@@ -218,15 +212,26 @@ impl Plain {
         }
     }
 
-    /// A directory's place with a name, or why there is none.
-    fn check_name(&self, directory: u16, name: &[u8]) -> Result<usize, FfsFault> {
+    /// A directory's place with a name, and the inode there, or why there is none.
+    fn check_name(&self, directory: u16, name: &[u8]) -> Result<(usize, u16), FfsFault> {
         let _ = self.check(directory, DIRECTORY)?;
         let name = name_number(name).ok_or(FfsFault::BadName)?;
-        self.find(directory, name).ok_or(FfsFault::NoEntry)
+        let place = self.find(directory, Some(name)).ok_or(FfsFault::NoEntry)?;
+        Ok((place, self.place(directory, place).inode))
+    }
+
+    /// The number of a name to which one moves from a directory into another, or why it can't.
+    fn check_move(&self, directory: u16, other: u16, new_name: &[u8]) -> Result<u16, FfsFault> {
+        if self.node(directory).mode == 0 || self.node(other).mode == 0 {
+            return Err(FfsFault::NoEntry);
+        }
+        let _ = self.check(directory, DIRECTORY)?;
+        let _ = self.check(other, DIRECTORY)?;
+        name_number(new_name).ok_or(FfsFault::BadName)
     }
 
     /// A call.
-    pub fn call(&mut self, action: &Action) -> Answer {
+    pub fn call(&mut self, action: &Action) -> Told {
         match action {
             Action::Create(directory, name) => self.make(*directory, name, FILE),
             Action::Mkdir(directory, name) => self.make(*directory, name, DIRECTORY),
@@ -242,25 +247,32 @@ impl Plain {
         }
     }
 
-    fn make(&mut self, directory: u16, name: &[u8], mode: u16) -> Answer {
+    /// The first free inode.
+    fn free_inode(&self) -> Option<u16> {
+        for inode in 1..=128u16 {
+            if self.node(inode).mode == 0 {
+                return Some(inode);
+            }
+        }
+        None
+    }
+
+    fn make(&mut self, directory: u16, name: &[u8], mode: u16) -> Told {
         let _ = self.check(directory, DIRECTORY)?;
         let name = name_number(name).ok_or(FfsFault::BadName)?;
-        if self.find(directory, name).is_some() {
+        if self.find(directory, Some(name)).is_some() {
             return Err(FfsFault::Exists);
         }
-        let free = self.nodes.iter().position(|node| node.mode == 0);
-        let inode = (free.ok_or(FfsFault::NoInode)?.wrapping_add(1) & 0xffff) as u16;
-        let place = self.gap(directory).ok_or(FfsFault::TooLarge)?;
-        self.set_node(
-            inode,
-            Node {
-                mode,
-                links: 1,
-                size: 0,
-            },
-        );
+        let inode = self.free_inode().ok_or(FfsFault::NoInode)?;
+        let place = self.find(directory, None).ok_or(FfsFault::TooLarge)?;
+        let node = Node {
+            mode,
+            links: 1,
+            size: 0,
+        };
+        self.set_node(inode, node);
         self.enter(directory, place, Place { inode, name });
-        Ok(inode)
+        Ok(u64::from(inode))
     }
 
     /// Sets a place, and the directory's size.
@@ -272,14 +284,16 @@ impl Plain {
         self.set_node(directory, node);
     }
 
-    fn write(&mut self, inode: u16, offset: u32, bytes: &[u8]) -> Answer {
+    fn write(&mut self, inode: u16, offset: u32, bytes: &[u8]) -> Told {
         let mut node = self.check(inode, FILE)?;
         let end = (offset as usize).wrapping_add(bytes.len());
         if end > 71_680 {
             return Err(FfsFault::TooLarge);
         }
         if !bytes.is_empty() {
-            self.clear_bytes(inode, node.size as usize, offset as usize);
+            for at in node.size..offset {
+                self.set_bytes(inode, at as usize, &[0]);
+            }
             node.size = node.size.max(end as u32);
         }
         self.set_bytes(inode, offset as usize, bytes);
@@ -301,40 +315,35 @@ impl Plain {
         }
     }
 
-    fn unlink(&mut self, directory: u16, name: &[u8]) -> Answer {
-        let place = self.check_name(directory, name)?;
-        let _ = self.check(self.place(directory, place).inode, FILE)?;
+    fn unlink(&mut self, directory: u16, name: &[u8]) -> Told {
+        let (place, inode) = self.check_name(directory, name)?;
+        let _ = self.check(inode, FILE)?;
         self.remove(directory, place);
         Ok(0)
     }
 
-    fn rmdir(&mut self, directory: u16, name: &[u8]) -> Answer {
-        let place = self.check_name(directory, name)?;
-        let inode = self.place(directory, place).inode;
+    fn rmdir(&mut self, directory: u16, name: &[u8]) -> Told {
+        let (place, inode) = self.check_name(directory, name)?;
         let _ = self.check(inode, DIRECTORY)?;
-        if (0..PLACES).any(|place| self.place(inode, place).inode != 0) {
-            return Err(FfsFault::DirNotEmpty);
+        for entry in 0..PLACES {
+            if self.place(inode, entry).inode != 0 {
+                return Err(FfsFault::DirNotEmpty);
+            }
         }
         self.remove(directory, place);
         Ok(0)
     }
 
-    fn rename(&mut self, directory: u16, name: &[u8], other: u16, new_name: &[u8]) -> Answer {
-        if self.node(directory).mode == 0 || self.node(other).mode == 0 {
-            return Err(FfsFault::NoEntry);
-        }
-        let _ = self.check(directory, DIRECTORY)?;
-        let _ = self.check(other, DIRECTORY)?;
-        let number = name_number(new_name).ok_or(FfsFault::BadName)?;
-        let place = self.check_name(directory, name)?;
-        if self.find(other, number).is_some() {
+    fn rename(&mut self, directory: u16, name: &[u8], other: u16, new_name: &[u8]) -> Told {
+        let number = self.check_move(directory, other, new_name)?;
+        let (place, inode) = self.check_name(directory, name)?;
+        if self.find(other, Some(number)).is_some() {
             return Err(FfsFault::Exists);
         }
-        let inode = self.place(directory, place).inode;
         if self.node(inode).mode == DIRECTORY && directory != other {
             return Err(FfsFault::IsDir);
         }
-        let gap = self.gap(other).ok_or(FfsFault::TooLarge)?;
+        let gap = self.find(other, None).ok_or(FfsFault::TooLarge)?;
         let entry = Place {
             inode,
             name: number,
@@ -344,17 +353,10 @@ impl Plain {
         Ok(0)
     }
 
-    fn replace(&mut self, directory: u16, name: &[u8], other: u16, other_name: &[u8]) -> Answer {
-        if self.node(directory).mode == 0 || self.node(other).mode == 0 {
-            return Err(FfsFault::NoEntry);
-        }
-        let _ = self.check(directory, DIRECTORY)?;
-        let _ = self.check(other, DIRECTORY)?;
-        let number = name_number(other_name).ok_or(FfsFault::BadName)?;
-        let from = self.check_name(directory, name)?;
-        let to = self.find(other, number).ok_or(FfsFault::NoEntry)?;
-        let inode = self.place(directory, from).inode;
-        let former = self.place(other, to).inode;
+    fn replace(&mut self, directory: u16, name: &[u8], other: u16, other_name: &[u8]) -> Told {
+        let number = self.check_move(directory, other, other_name)?;
+        let (from, inode) = self.check_name(directory, name)?;
+        let (to, former) = self.check_name(other, other_name)?;
         let _ = self.check(inode, FILE)?;
         let _ = self.check(former, FILE)?;
         if directory == other && from == to {
@@ -386,8 +388,9 @@ impl Plain {
             Err(fault) => answer == Err(fault),
             Ok(node) => {
                 let length = (node.size as usize).saturating_sub(offset).min(bytes.len());
-                answer == Ok(length)
-                    && (0..length).all(|i| bytes[i] == self.byte(inode, offset.wrapping_add(i)))
+                let first = start(inode, BYTES).wrapping_add(offset);
+                let wanted = self.bytes.get(first..first.wrapping_add(length));
+                answer == Ok(length) && wanted == bytes.get(..length)
             }
         }
     }

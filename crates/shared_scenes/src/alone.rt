@@ -2,7 +2,7 @@
 
 ghost use Rattle.std.specs.Prelude.{◌≡◌};
 
-use crate::blocks::{is, letters};
+use crate::blocks::{is, letters, same};
 use crate::lanes::Trouble;
 use crate::scene::{Scene, play};
 use crate::sharing::{Kernels, begin, flushes, found};
@@ -16,13 +16,9 @@ use xn_kernel::{Answer, Call, EditId, Fs, Refusal, Store};
 /// A start that the next one to take the lock finds.
 pub fn starts<K: Naming, R: Wait + Abort>(rt: &R, shared: &Kernels<K>, fs: Fs) {
     let started = begin(rt, shared, fs, 1, &letters());
-    is(
-        rt,
-        "a start",
-        started == (Ok((1, EditId(1))), Ok(EditId(2))),
-    );
+    same(rt, "a start", started, (Ok((1, EditId(1))), Ok(EditId(2))));
     let left = found(rt, shared, fs, 1, &letters());
-    is(rt, "what a start leaves", left == (2, true));
+    same(rt, "what a start leaves", left, (2, true));
 }
 
 /// Whether a worker reads block 1 as it was started.
@@ -51,10 +47,11 @@ pub fn is_told<K: Naming, R: Wait + Abort>(
     let (pending, _) = found(rt, shared, fs, 1, &letters());
     let read = shared.floor().read(stranger, 0);
     let met = shared.meet(rt, fs, reader);
-    is(
+    same(
         rt,
         "nothing pending, and the floor",
-        [u64::from(pending), read, met] == [0, 3, 3],
+        (pending, read, met),
+        (0, 3, 3),
     );
     is(rt, "a read", is_read(rt, alloc, shared, fs));
 }
@@ -66,36 +63,40 @@ pub fn fails<K: Naming, R: Wait + Abort>(rt: &R, shared: &Kernels<K>, fs: Fs) {
     flushes(rt, shared, 0, Some(Refusal::Device));
 }
 
-/// A block is begun, and forgotten under the lock; the next one to take the lock doesn't find it.
-fn is_forgotten<K: Naming, R: Wait>(rt: &R, shared: &Kernels<K>, fs: Fs) -> bool {
+/// Begins a block, and forgets it under the lock; the next one to take the lock doesn't find it.
+fn begin_and_forget<K: Naming, R: Wait + Abort>(rt: &R, shared: &Kernels<K>, fs: Fs) {
     let begun = shared.with(rt, |hub| hub.init(fs, 2, &letters()));
     let forgotten = shared.with(rt, |hub| hub.forget(fs, 1));
     let left = shared.with(rt, |hub| (hub.pending(fs), hub.read(fs, 1).err()));
-    begun == Ok((1, EditId(1))) && forgotten == Ok(()) && left == (0, Some(Refusal::NotInUse))
+    same(rt, "a block", begun, Ok((1, EditId(1))));
+    same(rt, "it is forgotten", forgotten, Ok(()));
+    same(rt, "what is left", left, (0, Some(Refusal::NotInUse)));
 }
 
-/// The block is started anew, and is then kept.
-fn is_anew<K: Naming, R: Wait>(rt: &R, shared: &Kernels<K>, fs: Fs) -> bool {
+/// Begins the block anew, which is then kept.
+fn begin_anew<K: Naming, R: Wait + Abort>(rt: &R, shared: &Kernels<K>, fs: Fs) {
     let started = begin(rt, shared, fs, 1, &letters());
     let kept = shared.with(rt, |hub| hub.forget(fs, 1));
-    started == (Ok((1, EditId(2))), Ok(EditId(3))) && kept == Err(Refusal::NotFresh)
+    same(
+        rt,
+        "a start anew",
+        started,
+        (Ok((1, EditId(2))), Ok(EditId(3))),
+    );
+    same(rt, "it is kept", kept, Err(Refusal::NotFresh));
 }
 
 /// A block that is forgotten, and started anew.
 pub fn forgets<K: Naming, R: Wait + Abort>(rt: &R, shared: &Kernels<K>, fs: Fs, reader: &mut Reader)
     requires { reader.old.floor ≡ K.floor }
 {
-    is(
-        rt,
-        "a block that is forgotten",
-        is_forgotten(rt, shared, fs),
-    );
+    begin_and_forget(rt, shared, fs);
     let first = shared.meet(rt, fs, reader);
-    is(rt, "a block anew", is_anew(rt, shared, fs));
+    begin_anew(rt, shared, fs);
     shared.stop();
     flushes(rt, shared, 2, None);
     let second = shared.meet(rt, fs, reader);
-    is(rt, "the floors", [first, second] == [2, 4]);
+    same(rt, "the floors", (first, second), (2, 4));
 }
 
 /// Whether the stop flag is set, before a stop and after it.

@@ -3,7 +3,7 @@
 ghost use Rattle.std.specs.Prelude.{◌≡◌, ◌≢◌, All, IfOk};
 ghost use Rattle.xn_state.specs.declared.call.Call.TheVariants.{Drain};
 
-use crate::blocks::{edit_of, is};
+use crate::blocks::{edit_of, is, same};
 use crate::lanes::Trouble;
 use crate::scene::{Scene, play};
 use crate::sharing::{Kernels, all_told, flush_at_once, start};
@@ -61,19 +61,16 @@ fn work<K: Naming, R: Wait + Abort>(
     entries_of(alloc, &answers).expect(rt, "memory")
 }
 
-/// Marks the numbers from 9 to 168 among these that are not marked; how many there are.
-fn mark(marked: &mut [bool; 169], entries: &[u64]) -> usize {
-    let mut count = 0usize;
+/// Marks these numbers; whether each is one from 9 to 168 that was not marked.
+fn mark(marked: &mut [bool; 169], entries: &[u64]) -> bool {
+    let mut are_new = true;
     for entry in entries {
-        if let Some(place) = marked.get_mut(*entry as usize)
-            && *entry > 8
-            && !*place
-        {
-            *place = true;
-            count = count.saturating_add(1);
+        match marked.get_mut(*entry as usize) {
+            Some(place) if *entry > 8 && !*place => *place = true,
+            _ => are_new = false,
         }
     }
-    count
+    are_new
 }
 
 /// All workers at once, after which the flushers may end: whether their entries are those from 9 to 168.
@@ -90,11 +87,11 @@ fn are_nine_on<K: Naming + Send + Sync, R: Threads + Wait + Abort + Sync>(
     );
     shared.stop();
     let mut marked = [false; 169];
-    let mut count = 0usize;
+    let mut are_right = true;
     for entries in &worked.expect(rt, "memory") {
-        count = count.saturating_add(mark(&mut marked, entries));
+        are_right = mark(&mut marked, entries) && entries.len() == 40 && are_right;
     }
-    count == 160
+    are_right
 }
 
 /// Bytes 0 to 39 are 1 to 40, and all others 0.
@@ -119,15 +116,15 @@ pub fn run_at_once<K: Naming + Send + Sync, R: Threads + Wait + Abort + Sync>(
     requires reader { reader.old.floor ≡ K.floor }
 {
     start(rt, shared, SYSTEMS);
-    is(rt, "no floor", shared.floor().read(stranger, 0) == 0);
+    same(rt, "no floor", shared.floor().read(stranger, 0), 0);
     let (writes, nine_on) = join(
         rt,
         || flush_at_once(rt, alloc, shared, 2),
         || are_nine_on(rt, alloc, shared),
     );
-    is(rt, "5 to 168 writes", 5 <= writes && writes <= 168);
+    assert!(rt; 5 <= writes && writes <= 168, "{writes} writes");
     is(rt, "the entries from 9 to 168", nine_on);
-    is(rt, "a floor", shared.floor().read(stranger, 0) == 169);
+    same(rt, "a floor", shared.floor().read(stranger, 0), 169);
     all_told(rt, shared, reader, SYSTEMS, 169, &edited());
     edited()
 }

@@ -4,6 +4,7 @@ use crate::lanes::{SceneLane, image_of};
 use crash_check::check;
 use disk::Lanes;
 use std::alloc::{AllocError, Global};
+use std::fmt::Debug;
 use std::process::Abort;
 use std::thread::Threads;
 use xn_kernel::{Edit, Patch};
@@ -11,6 +12,11 @@ use xn_kernel::{Edit, Patch};
 /// Ends the test, and says what was not so.
 pub fn is(rt: &impl Abort, what: &str, holds: bool) {
     assert!(rt; holds, "{what}");
+}
+
+/// Ends the test where what came is not what is wanted, and tells both.
+pub fn same<T: PartialEq + Debug + Drop>(rt: &impl Abort, what: &str, came: T, wanted: T) {
+    assert!(rt; came == wanted, "{what}: {came:?}, and not {wanted:?}");
 }
 
 /// A block that begins with `ABC`.
@@ -35,10 +41,10 @@ pub fn edit_of(alloc: Global, offset: u16, bytes: &[u8]) -> Result<Edit, AllocEr
 }
 
 /// How many blocks of a sound image are reached, and how many are free.
-fn counts(rt: &(impl Threads + Sync), alloc: Global, image: &[u8]) -> (usize, usize) {
+fn counts<R: Threads + Abort + Sync>(rt: &R, alloc: Global, image: &[u8]) -> (usize, usize) {
     match check(rt, alloc, image) {
         Ok(report) => (report.reached.len(), report.free.len()),
-        Err(_) => (0, 0),
+        Err(fault) => panic!(rt; "an image: {fault}"),
     }
 }
 
@@ -52,10 +58,15 @@ pub fn is_on_disk<R: Threads + Abort + Sync>(
 ) {
     let image = image_of(alloc, lanes).expect(rt, "memory");
     let wanted = (systems.saturating_add(1), 31usize.saturating_sub(systems));
-    is(rt, "an image", counts(rt, alloc, &image) == wanted);
+    same(
+        rt,
+        "reached and free blocks",
+        counts(rt, alloc, &image),
+        wanted,
+    );
     let (blocks, _) = image.as_chunks::<512>();
     for at in 0..systems {
         let is_right = blocks.get(at.saturating_add(1)) == Some(bytes);
-        is(rt, "a block on the disk", is_right);
+        same(rt, "a block on the disk", (at, is_right), (at, true));
     }
 }

@@ -1,6 +1,6 @@
 // A flusher is held in the middle of a write or of its sync, and an edit of its block is answered meanwhile.
 
-use crate::blocks::{edit_of, is, letters};
+use crate::blocks::{edit_of, is, letters, same};
 use crate::lanes::{Hold, Trouble};
 use crate::scene::{Scene, play};
 use crate::sharing::{Kernels, flush_at_once};
@@ -48,7 +48,7 @@ pub fn edits_beside<K: Naming + Send + Sync, R: Threads + Wait + Abort + Sync>(
     for number in 0..flushers {
         let begun = shared.with(rt, |hub| hub.init(fs, 2, &letters()));
         let wanted = (number.wrapping_add(1), EditId(u64::from(number) + 1));
-        is(rt, "a block", begun == Ok(wanted));
+        same(rt, "a block", begun, Ok(wanted));
     }
     let (writes, is_edited) = join(
         rt,
@@ -57,10 +57,11 @@ pub fn edits_beside<K: Naming + Send + Sync, R: Threads + Wait + Abort + Sync>(
     );
     is(rt, "edits while writes are held", is_edited);
     is(rt, "holds that are answered in time", hold.was_in_time());
-    is(
+    same(
         rt,
         "two writes of each block",
-        writes == flushers.saturating_mul(2),
+        writes,
+        flushers.saturating_mul(2),
     );
 }
 

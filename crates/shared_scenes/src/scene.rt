@@ -1,6 +1,6 @@
 // Each scene has a fresh disk of 32 blocks, whose kernel threads share, a floor, and two who read that.
 
-ghost use Rattle.std.specs.Prelude.{◌≡◌};
+ghost use Rattle.std.specs.Prelude.{◌≡◌, IfSome};
 ghost use Rattle.durable_floor.specs.Rules.{zero_floor};
 
 use crate::alone::{fails, forgets, is_told, stops};
@@ -40,35 +40,52 @@ pub enum Scene {
     Many,
 }
 
-/// Plays a scene with a kernel and two readers of its floor.
+impl Scene {
+    /// How many read the floor.
+    fn readers(self) -> usize {
+        match self {
+            Scene::Flush | Scene::AtOnce => 2,
+            Scene::Forget | Scene::Many => 1,
+            Scene::Stop | Scene::Fault | Scene::Unsynced | Scene::Held(_) => 0,
+        }
+    }
+}
+
+/// Plays a scene with a kernel, and with those who read its floor.
 fn play_with<K: Naming + Send + Sync, R: Threads + Wait + Abort + Sync>(
     rt: &R,
     alloc: Global,
     scene: Scene,
     hold: &Hold,
     shared: Kernels<K>,
-    stranger: &mut Reader,
-    reader: &mut Reader,
+    reader: Option<Reader>,
+    stranger: Option<Reader>,
 )
-    requires stranger { stranger.old.floor ≡ K.floor }
-    requires reader { reader.old.floor ≡ K.floor }
+    requires reader { IfSome reader (λ r. r.floor ≡ K.floor) }
+    requires stranger { IfSome stranger (λ r. r.floor ≡ K.floor) }
 {
     let fs = Fs::new(0).expect(rt, "a file system");
     let mut systems = 0;
     let mut left = [0; 512];
     match scene {
-        Scene::Flush => is_told(rt, alloc, &shared, fs, stranger, reader),
+        Scene::Flush => {
+            let mut reader = reader.expect(rt, "a reader");
+            let mut stranger = stranger.expect(rt, "a stranger");
+            is_told(rt, alloc, &shared, fs, &mut stranger, &mut reader)
+        }
         Scene::Stop => stops(rt, &shared),
-        Scene::Forget => forgets(rt, &shared, fs, reader),
+        Scene::Forget => forgets(rt, &shared, fs, &mut reader.expect(rt, "a reader")),
         Scene::Fault => fails(rt, &shared, fs),
         Scene::Unsynced => ends_by_hand(rt, &shared, fs),
         Scene::AtOnce => {
-            left = run_at_once(rt, alloc, &shared, stranger, reader);
+            let mut reader = reader.expect(rt, "a reader");
+            let mut stranger = stranger.expect(rt, "a stranger");
+            left = run_at_once(rt, alloc, &shared, &mut stranger, &mut reader);
             systems = 4;
         }
         Scene::Held(flushers) => edits_beside(rt, alloc, &shared, hold, fs, flushers),
         Scene::Many => {
-            left = run_many(rt, alloc, &shared, reader);
+            left = run_many(rt, alloc, &shared, &mut reader.expect(rt, "a reader"));
             systems = 8;
         }
     }
@@ -87,13 +104,13 @@ fn play_over<K: Naming + Send + Sync, R: Threads + Wait + Abort + Sync>(
     trouble: Trouble,
     floor: Floor,
     publisher: Publisher,
-    stranger: &mut Reader,
-    reader: &mut Reader,
+    reader: Option<Reader>,
+    stranger: Option<Reader>,
 )
     requires floor { floor ≡ K.floor }
     requires publisher { publisher ≡ record { floor = floor; seen = zero_floor } }
-    requires stranger { stranger.old.floor ≡ floor }
-    requires reader { reader.old.floor ≡ floor }
+    requires reader { IfSome reader (λ r. r.floor ≡ floor) }
+    requires stranger { IfSome stranger (λ r. r.floor ≡ floor) }
 {
     let lanes = scene_lanes(rt, alloc, hold, trouble);
     let gate = SceneGate {
@@ -102,7 +119,7 @@ fn play_over<K: Naming + Send + Sync, R: Threads + Wait + Abort + Sync>(
     };
     let kernel = mounted(rt, alloc, lanes);
     let shared = share::<K>(alloc, kernel, floor, publisher, gate).expect(rt, "memory");
-    play_with(rt, alloc, scene, hold, shared, stranger, reader)
+    play_with(rt, alloc, scene, hold, shared, reader, stranger)
 }
 
 /// Plays a scene.
@@ -114,10 +131,10 @@ pub fn play<R: Threads + Wait + Abort + Sync>(
     trouble: Trouble,
 ) {
     let hold = Arc::new(alloc, Hold::new(clock)).expect(rt, "memory");
-    let (floor, publisher, mut readers) = Floor::new(alloc, 2).expect(rt, "memory");
-    let mut one = readers.pop().expect(rt, "a reader");
-    let mut two = readers.pop().expect(rt, "a reader");
+    let (floor, publisher, mut readers) = Floor::new(alloc, scene.readers()).expect(rt, "memory");
+    let reader = readers.pop();
+    let stranger = readers.pop();
     play_over::<Brand, R>(
-        rt, alloc, scene, &hold, trouble, floor, publisher, &mut one, &mut two,
+        rt, alloc, scene, &hold, trouble, floor, publisher, reader, stranger,
     )
 }

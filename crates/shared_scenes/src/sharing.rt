@@ -3,7 +3,7 @@
 ghost use Rattle.std.specs.Prelude.{◌≡◌};
 ghost use Rattle.durable_floor.specs.Rules.{zero_floor};
 
-use crate::blocks::is;
+use crate::blocks::same;
 use crate::lanes::{SceneGate, SceneLane};
 use crash_check::mount;
 use disk::Lanes;
@@ -26,7 +26,7 @@ pub fn mounted<R: Threads + Abort + Sync>(
 ) -> Kernel<SceneLane> {
     match mount(rt, alloc, lanes, 1) {
         Ok(kernel) => kernel,
-        Err(_) => panic!(rt; "no mount"),
+        Err((fault, _)) => panic!(rt; "no mount: {fault}"),
     }
 }
 
@@ -60,13 +60,12 @@ pub fn begin<K: Naming, R: Wait>(
 /// A block of each of so many file systems, rooted: the blocks and the entries from 1 on.
 pub fn start<K: Naming, R: Wait + Abort>(rt: &R, shared: &Kernels<K>, systems: u8) {
     for number in 0..systems {
-        if let Some(fs) = Fs::new(number) {
-            let block = u32::from(number) + 1;
-            let entry = 2 * u64::from(number) + 1;
-            let begun = begin(rt, shared, fs, block, &[0; 512]);
-            let wanted = (Ok((block, EditId(entry))), Ok(EditId(entry + 1)));
-            is(rt, "a block and a root", begun == wanted);
-        }
+        let fs = Fs::new(number).expect(rt, "a file system");
+        let block = u32::from(number) + 1;
+        let entry = 2 * u64::from(number) + 1;
+        let begun = begin(rt, shared, fs, block, &[0; 512]);
+        let wanted = (Ok((block, EditId(entry))), Ok(EditId(entry + 1)));
+        same(rt, "a block and a root", begun, wanted);
     }
 }
 
@@ -96,11 +95,11 @@ pub fn all_told<K: Naming, R: Wait + Abort>(
     requires { reader.old.floor ≡ K.floor }
 {
     for number in 0..systems {
-        if let Some(fs) = Fs::new(number) {
-            is(rt, "a floor", shared.meet(rt, fs, reader) == floor);
-            let left = found(rt, shared, fs, u32::from(number) + 1, bytes);
-            is(rt, "a block that is written", left == (0, true));
-        }
+        let fs = Fs::new(number).expect(rt, "a file system");
+        let met = shared.meet(rt, fs, reader);
+        let (pending, is_right) = found(rt, shared, fs, u32::from(number) + 1, bytes);
+        let left = (number, met, pending, is_right);
+        same(rt, "a file system", left, (number, floor, 0, true));
     }
 }
 
@@ -127,7 +126,7 @@ pub fn flushes<K: Naming, R: Wait + Abort>(
     writes: u32,
     fault: Option<Refusal>,
 ) {
-    is(rt, "a flush", flush(rt, shared) == (writes, fault, false));
+    same(rt, "a flush", flush(rt, shared), (writes, fault, false));
 }
 
 /// How many writes a flusher made that met no fault.

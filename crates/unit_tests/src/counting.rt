@@ -3,7 +3,7 @@
 ghost use Rattle.std.specs.Prelude.{⊤};
 ghost use Rattle.disk.specs.Mem.{memory_leaves};
 
-use crate::disks::{fresh_lanes, fs, give, is, mounted, no_lanes, take};
+use crate::disks::{fresh_lanes, fs, give, mounted, no_lanes, same, take};
 use disk::{BLOCK_LEN, DeviceFault, Lane, Lanes, MemLane};
 use std::alloc::Global;
 use std::process::Abort;
@@ -78,7 +78,7 @@ fn counting_lanes(rt: &impl Abort, alloc: Global) -> Lanes<CountingLane> {
     let mut counting = no_lanes(rt, alloc);
     for block in 0..32 {
         let lane = CountingLane {
-            lane: take(rt, &mut lanes, block),
+            lane: take(rt, &mut lanes, 32, block),
             count: Arc::try_clone(&count).expect(rt, "a count"),
             written_at: None,
             synced_at: None,
@@ -89,13 +89,6 @@ fn counting_lanes(rt: &impl Abort, alloc: Global) -> Lanes<CountingLane> {
     counting
 }
 
-/// Whether a lane was synced last at this count, and, where these are asked for, read and written at those.
-fn is_turn(lane: &CountingLane, synced: u64, read: Option<u64>, written: Option<u64>) -> bool {
-    lane.synced_at == Some(synced)
-        && (read.is_none() || lane.read_at == read)
-        && (written.is_none() || lane.written_at == written)
-}
-
 #[test]
 fn a_mount_syncs_and_reads_each_lane_by_rising_number(rt: HostRuntime) {
     let lanes = counting_lanes(&rt, rt.alloc());
@@ -103,14 +96,21 @@ fn a_mount_syncs_and_reads_each_lane_by_rising_number(rt: HostRuntime) {
     for block in 0..32u32 {
         let lane = kernel.lane(block).expect(&rt, "a lane");
         let turn = 2 * u64::from(block);
-        is(
+        let came = (block, lane.synced_at, lane.read_at);
+        same(
             &rt,
             "a sync and a read",
-            is_turn(lane, turn, Some(turn + 1), None),
+            came,
+            (block, Some(turn), Some(turn + 1)),
         );
     }
     let lane = kernel.lane(0).expect(&rt, "a lane");
-    is(&rt, "64 of both", lane.count.load(Ordering::SeqCst) == 64);
+    same(
+        &rt,
+        "the count of both",
+        lane.count.load(Ordering::SeqCst),
+        64,
+    );
 }
 
 /// How many waves a flush took; `None` where it stopped, and its tickets are given up.
@@ -139,18 +139,19 @@ fn a_wave_is_written_before_its_first_sync(rt: HostRuntime) {
     let owner = fs(&rt, 0);
     for block in 1..4u32 {
         let begun = kernel.init(owner, 2, &[0x41; 512]);
-        is(
-            &rt,
-            "a block",
-            begun == Ok((block, EditId(u64::from(block)))),
-        );
+        same(&rt, "a block", begun, Ok((block, EditId(u64::from(block)))));
     }
-    is(&rt, "one wave", flushed(&mut kernel, rt.alloc()) == Some(1));
+    same(&rt, "waves", flushed(&mut kernel, rt.alloc()), Some(1));
     // Behind the mount's 64 syncs and reads come three writes, and then three syncs, each with its read.
     for block in 1..4u32 {
         let lane = kernel.lane(block).expect(&rt, "a lane");
         let number = u64::from(block);
-        let is_right = is_turn(lane, 73 - 2 * number, None, Some(63 + number));
-        is(&rt, "a write and a sync", is_right);
+        let came = (block, lane.written_at, lane.synced_at);
+        same(
+            &rt,
+            "a write and a sync",
+            came,
+            (block, Some(63 + number), Some(73 - 2 * number)),
+        );
     }
 }

@@ -3,6 +3,7 @@
 use crash_check::{ImageFault, mount};
 use disk::{Lane, Lanes, MemLane, PlanLane};
 use std::alloc::Global;
+use std::fmt::Debug;
 use std::process::Abort;
 use std::thread::Threads;
 use templates::format_image;
@@ -13,6 +14,11 @@ use xn_kernel::{Fs, Kernel};
 /// Ends the test where something is not so, and says what.
 pub fn is(rt: &impl Abort, what: &str, holds: bool) {
     assert!(rt; holds, "{what}");
+}
+
+/// Ends the test where what came is not what is wanted, and tells both.
+pub fn same<T: PartialEq + Debug + Drop>(rt: &impl Abort, what: &str, came: T, wanted: T) {
+    assert!(rt; came == wanted, "{what}: {came:?}, and not {wanted:?}");
 }
 
 /// A file system.
@@ -31,9 +37,10 @@ pub fn fresh_lanes(rt: &impl Abort, alloc: Global) -> Lanes<MemLane> {
     panic!(rt; "no lanes")
 }
 
-/// The lane of a block, taken out.
-pub fn take<L: Lane>(rt: &impl Abort, lanes: &mut Lanes<L>, block: u32) -> L {
-    if (block as usize) < lanes.blocks()
+/// The lane of a block, taken out of so many.
+pub fn take<L: Lane>(rt: &impl Abort, lanes: &mut Lanes<L>, blocks: u32, block: u32) -> L {
+    if lanes.blocks() == blocks as usize
+        && block < blocks
         && let Some(lane) = lanes.take(block)
     {
         return lane;
@@ -63,7 +70,7 @@ pub fn failing_lanes(
     let mut lanes = fresh_lanes(rt, alloc);
     let mut planned = no_lanes(rt, alloc);
     for block in 0..32 {
-        let lane = take(rt, &mut lanes, block);
+        let lane = take(rt, &mut lanes, 32, block);
         let lane = if block == failing {
             PlanLane::new(lane, read, write)
         } else {
@@ -83,7 +90,7 @@ pub fn mounted<L: Lane + Drop, R: Threads + Abort + Sync>(
 ) -> Kernel<L> {
     match mount(rt, alloc, lanes, id) {
         Ok(kernel) => kernel,
-        Err(_) => panic!(rt; "no mount"),
+        Err((fault, _)) => panic!(rt; "no mount: {fault}"),
     }
 }
 
@@ -97,7 +104,7 @@ pub fn faulty<L: Lane + Drop, R: Threads + Abort + Sync>(
     match mount(rt, alloc, lanes, 1) {
         Ok(_) => panic!(rt; "a mount"),
         Err((fault, lanes)) => {
-            is(rt, "the fault of a mount", fault == wanted);
+            same(rt, "the fault of a mount", fault, wanted);
             lanes
         }
     }

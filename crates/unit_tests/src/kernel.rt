@@ -87,7 +87,15 @@ fn a_drain_stops_where_a_write_fails(rt: HostRuntime) {
     for (stays, wanted) in [(false, failed), (true, done)] {
         let lanes = failing_lanes(&rt, rt.alloc(), 1, None, Some((1, stays)));
         let ends = two_drains(rooted(&rt, rt.alloc(), lanes));
-        is(&rt, "two drains", ends == wanted);
+        is(
+            &rt,
+            if stays {
+                "drains of bytes that stay"
+            } else {
+                "drains"
+            },
+            ends == wanted,
+        );
     }
 }
 

@@ -1,14 +1,17 @@
 // Lanes of a disk in memory: their failures, their crashes and their places.
 
-use crate::disks::{give, is, take};
-use disk::{DeviceFault, Lane, Lanes, MemDisk, MemLane, fresh_lanes};
+use crate::disks::{give, is, same, take};
+use disk::{DeviceFault, Lane, Lanes, MemDisk, MemLane};
 use std::alloc::Global;
 use std::process::Abort;
 
 /// The lane of block 1 on a disk of two blocks of sevens.
 fn second_lane(rt: &impl Abort, alloc: Global) -> MemLane {
-    let mut lanes = fresh_lanes(alloc, &[7; 1024]).expect(rt, "memory");
-    take(rt, &mut lanes, 1)
+    let disk = MemDisk::new(alloc, &[7; 1024]).expect(rt, "memory");
+    match disk.split(alloc) {
+        Ok(mut lanes) => take(rt, &mut lanes, 2, 1),
+        Err(_) => panic!(rt; "no memory"),
+    }
 }
 
 #[test]
@@ -21,10 +24,10 @@ fn a_failed_write_leaves_old_or_new_bytes(rt: HostRuntime) {
             "a failed write",
             lane.write(&[1; 512]) == Err(DeviceFault),
         );
-        is(&rt, "one fault", lane.faults() == 1);
-        is(&rt, "the byte that is left", lane.bytes()[0] == left);
+        same(&rt, "faults", lane.faults(), 1);
+        same(&rt, "the byte that is left", lane.bytes()[0], left);
         is(&rt, "a write", lane.write(&[2; 512]) == Ok(()));
-        is(&rt, "a byte of it", lane.bytes()[511] == 2);
+        same(&rt, "a byte of it", lane.bytes()[511], 2);
     }
 }
 
@@ -49,11 +52,12 @@ fn a_crash_leaves_settled_or_given_bytes(rt: HostRuntime) {
     for (fault, read) in [(None, 9), (Some(false), 7), (Some(true), 9)] {
         for (sync, lost, kept) in [(None, 7, 9), (Some(false), 7, 9), (Some(true), read, read)] {
             for (is_kept, left) in [(false, lost), (true, kept)] {
-                let lane = second_lane(&rt, rt.alloc());
-                is(
+                let came = left_after(second_lane(&rt, rt.alloc()), fault, sync, is_kept);
+                same(
                     &rt,
                     "what a crash leaves",
-                    left_after(lane, fault, sync, is_kept) == left,
+                    (fault, sync, is_kept, came),
+                    (fault, sync, is_kept, left),
                 );
             }
         }
@@ -64,14 +68,14 @@ fn a_crash_leaves_settled_or_given_bytes(rt: HostRuntime) {
 fn a_lane_has_one_place(rt: HostRuntime) {
     let mut lanes = Lanes::new(rt.alloc(), 2).expect(&rt, "memory");
     let lane = second_lane(&rt, rt.alloc());
-    is(&rt, "its number", lane.number() == 1);
+    same(&rt, "its number", lane.number(), 1);
     give(&rt, &mut lanes, lane);
     let is_taken = lanes.give(second_lane(&rt, rt.alloc())).is_err();
     is(&rt, "its place is taken", is_taken);
     match MemDisk::join(rt.alloc(), lanes) {
         Ok(_) => panic!(rt; "joined without a lane"),
         Err(mut lanes) => {
-            let _lane = take(&rt, &mut lanes, 1);
+            let _lane = take(&rt, &mut lanes, 2, 1);
         }
     }
 }

@@ -1,13 +1,13 @@
 // Mounts that give the lanes back, and what they sync.
 
-use crate::disks::{are_home, failing_lanes, faulty, fresh_lanes, give, is, mounted, take};
+use crate::disks::{are_home, failing_lanes, faulty, fresh_lanes, give, is, mounted, same, take};
 use crash_check::ImageFault;
 use disk::{DeviceFault, Lane};
 
 #[test]
 fn a_mount_gives_the_lanes_back(rt: HostRuntime) {
     let mut lanes = fresh_lanes(&rt, rt.alloc());
-    let mut lane = take(&rt, &mut lanes, 31);
+    let mut lane = take(&rt, &mut lanes, 32, 31);
     let mut lanes = faulty(&rt, rt.alloc(), lanes, ImageFault::BadLength);
     lane.fail_read();
     give(&rt, &mut lanes, lane);
@@ -18,17 +18,18 @@ fn a_mount_gives_the_lanes_back(rt: HostRuntime) {
 #[test]
 fn a_mount_reads_no_lane_whose_sync_fails(rt: HostRuntime) {
     let mut lanes = fresh_lanes(&rt, rt.alloc());
-    let mut lane = take(&rt, &mut lanes, 31);
+    let mut lane = take(&rt, &mut lanes, 32, 31);
     lane.fail_sync();
     lane.fail_read();
     give(&rt, &mut lanes, lane);
     let mut lanes = faulty(&rt, rt.alloc(), lanes, ImageFault::Device);
     is(&rt, "all lanes", are_home(&lanes));
-    let mut lane = take(&rt, &mut lanes, 31);
-    is(
+    let mut lane = take(&rt, &mut lanes, 32, 31);
+    same(
         &rt,
         "its sync failed, and it was not read",
-        lane.faults() == 1,
+        lane.faults(),
+        1,
     );
     is(
         &rt,
@@ -42,13 +43,13 @@ fn a_mount_reads_no_lane_whose_sync_fails(rt: HostRuntime) {
 #[test]
 fn a_mount_settles_what_it_reads(rt: HostRuntime) {
     let mut lanes = fresh_lanes(&rt, rt.alloc());
-    let mut lane = take(&rt, &mut lanes, 31);
+    let mut lane = take(&rt, &mut lanes, 32, 31);
     is(&rt, "a write", lane.write(&[9; 512]) == Ok(()));
     give(&rt, &mut lanes, lane);
     let mut lanes = mounted(&rt, rt.alloc(), lanes, 1).into_lanes();
-    let mut lane = take(&rt, &mut lanes, 31);
+    let mut lane = take(&rt, &mut lanes, 32, 31);
     lane.crash(false);
-    is(&rt, "the byte that was written", lane.bytes()[511] == 9);
+    same(&rt, "the byte that was written", lane.bytes()[511], 9);
 }
 
 #[test]

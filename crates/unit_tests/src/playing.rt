@@ -1,6 +1,6 @@
 // Transcripts that are not as written.
 
-use crate::disks::is;
+use crate::disks::same;
 use player::play;
 
 /// What is told of a line that the player doesn't know.
@@ -46,7 +46,7 @@ fn tells_the_first_line_that_is_not_as_written(rt: HostRuntime) {
         match play(&rt, rt.alloc(), transcript) {
             Ok(_) => panic!(rt; "{transcript} was played"),
             Err(fault) => match format!(in rt.alloc(); "{fault}") {
-                Ok(text) => is(&rt, transcript, text.as_str() == *told),
+                Ok(text) => same(&rt, transcript, text.as_str(), *told),
                 Err(_) => panic!(rt; "no memory"),
             },
         }

@@ -1,6 +1,6 @@
 // Standard streams that fail. All else that the line does is shown by transcripts.
 
-use crate::disks::is;
+use crate::disks::same;
 use std::alloc::Global;
 use std::io;
 use std::io::{ErrorKind, Read, Write};
@@ -106,7 +106,7 @@ fn has_status_1_where_a_stream_fails(rt: HostRuntime) {
             &mut out,
             &mut err,
         );
-        is(&rt, "status 1", status == 1);
-        is(&rt, "what is told", err.as_slice() == told.as_bytes());
+        same(&rt, "status", status, 1);
+        same(&rt, "what is told", err.as_slice(), told.as_bytes());
     }
 }

@@ -1,6 +1,6 @@
 // Tickets that come back: from kernels that didn't begin them, and where a written block isn't read back.
 
-use crate::disks::{fresh_lanes, fs, is, mounted};
+use crate::disks::{fresh_lanes, fs, is, mounted, same};
 use crate::kernel::drain;
 use disk::MemLane;
 use std::alloc::{AllocError, Global};
@@ -90,11 +90,8 @@ fn a_ticket_of_another_kernel_comes_back(rt: HostRuntime) {
         } else {
             strayed(&mut kernel, &mut other)
         };
-        is(
-            &rt,
-            "a ticket",
-            told == Some((Refusal::NotMine, Some(ONE_DURABLE))),
-        );
+        let is_back = told == Some((Refusal::NotMine, Some(ONE_DURABLE)));
+        same(&rt, "a ticket", (id, byte, is_back), (id, byte, true));
     }
 }
 

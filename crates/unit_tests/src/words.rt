@@ -1,6 +1,6 @@
 // The faults of bytes that spell no program. Those that an assembler's text can have are shown by transcripts.
 
-use crate::disks::is;
+use crate::disks::same;
 use udf_code::{CodeFault, decode};
 
 /// Bytes, and their faults.
@@ -28,10 +28,11 @@ static FAULTS: [(&[u8], CodeFault); 15] = [
 #[test]
 fn faults_of_bytes(rt: HostRuntime) {
     for (bytes, fault) in &FAULTS {
-        is(
+        same(
             &rt,
             "a fault",
-            decode(rt.alloc(), bytes).err() == Some(*fault),
+            decode(rt.alloc(), bytes).err(),
+            Some(*fault),
         );
     }
 }

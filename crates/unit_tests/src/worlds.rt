@@ -1,6 +1,6 @@
 // A list of events, and an image that is read.
 
-use crate::disks::{fs, is};
+use crate::disks::{fs, is, same};
 use world::{Answer, Call, Event, Reply, World};
 use xn_kernel::{EditId, Refusal};
 
@@ -31,7 +31,7 @@ fn events_of_a_list_are_run_in_their_order(rt: HostRuntime) {
     ];
     is(&rt, "the replies", replies.as_slice() == want.as_slice());
     let image = world.image().expect(&rt, "memory");
-    is(&rt, "an image of 32 blocks", image.len() == 16384);
+    same(&rt, "the bytes of an image", image.len(), 16384);
     let block = image.as_slice().get(512..1024).unwrap_or(&[]);
     is(&rt, "block 1", block == bytes.as_slice());
 }
