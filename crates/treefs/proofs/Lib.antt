@@ -1,2 +1,5 @@
 pub mod Remembering
 pub mod Dropping
+pub mod FreedInodes
+pub mod Refused
+pub mod Orphans

@@ -2,7 +2,10 @@ pub mod Changed
 pub mod Committing
 pub mod Creating
 pub mod Linking
+pub mod Making
+pub mod Opening
 pub mod Reads
+pub mod Reaping
 pub mod Remembered
 pub mod Renaming
 pub mod Setting
@@ -10,3 +13,4 @@ pub mod Sizing
 pub mod Trimming
 pub mod Unlinking
 pub mod Writing
+pub mod WritingTimes

@@ -3,9 +3,17 @@
 #![tactic(auto)]
 
 mod attributes;
+mod beginning;
+mod block_types;
+mod making;
 mod memory;
+mod opening;
+mod reap_plan;
+mod reaping;
 mod trimming;
 mod volume;
+mod writing_times;
 
 pub use attributes::Attributes;
+pub use block_types::BlockTypes;
 pub use volume::Volume;

@@ -5,10 +5,14 @@ use treefs_edits::{Memory, Tree};
 mod bytes;
 mod committing;
 mod creating;
+mod making;
 mod names;
+mod opening;
 mod reads;
+mod reaping;
 mod renaming;
 mod setting;
+mod writing_times;
 
 /// A volume of a store, with what its session keeps in memory.
 #[derive(Debug, Drop)]

@@ -187,7 +187,7 @@ module _ (node inode top : ℕ) (type : ℕ → ℕ) (old new : ℕ → List ℕ
 
     key_same : key_in new top ≡ key_in old top
     key_same = key_from new old (elim (cases_eq top holder) [
-      | inl root ↦ ap (λ x. content_of (new x)) root ∙ (free.contents ∙ sym (ap (λ x. content_of (old x)) root))
+      | inl root ↦ ap (λ x. content_of (new x)) root ∙ (free.contents (ap type (sym root) ∙ v.typed.inodes 0 v.root) ∙ sym (ap (λ x. content_of (old x)) root))
       | inr ne ↦ ap content_of (free.changed top ne)
     ])
       where

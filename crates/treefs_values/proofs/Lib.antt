@@ -20,3 +20,10 @@ pub mod NamesEnd
 pub mod BytesPut
 pub mod BytesWritten
 pub mod Attaching
+pub mod LookUps
+pub mod Begun
+pub mod BegunRead
+pub mod PointerSet
+pub mod Zeros
+pub mod EmptyBlocks
+pub mod ForCallers

@@ -28,7 +28,7 @@ use Rattle.treefs_values.specs.Ways.{ArePointersApart}
 use Rattle.treefs_values.proofs.Readings.{kinds_are, may_read, readable_is}
 
 -- what has a pointer is of one of the two types
-of_types : (node inode t o : ℕ) → node ≢ 0 → inode ≢ 0 → IsTrue (has_pointer node inode t o) → t ≢ 0
+pub of_types : (node inode t o : ℕ) → node ≢ 0 → inode ≢ 0 → IsTrue (has_pointer node inode t o) → t ≢ 0
 of_types node inode t o some some' has = elim (or_cases ((t == node) && is_node_offset o) ((t == inode) && is_inode_offset o) has) [
   | inl a ↦ (λ z. some (sym (eqb-true t node (and_parts (t == node) (is_node_offset o) a).0) ∙ z))
   | inr b ↦ (λ z. some' (sym (eqb-true t inode (and_parts (t == inode) (is_inode_offset o) b).0) ∙ z))
@@ -80,7 +80,7 @@ module _ (T : Types) (state : StoreState) (h : IsConsistent T state) (node inode
       reads.once s.life.ty s.shows.bytes o o' x ((h.lives_sound.each p s.life s.alive).fit s.shows (chosen_in (everything state.lives) p s.life s.shows s.is)) s.points
       ((λ j. S.pointer (type_in (sym s.alive j)) (sym bytes j) o') ∙ two) there
 
-  owner : (p o x : ℕ) → x ≢ 0 → pointer_at S state.lives (latest state.lives) p o ≡ x → (l : Life) × (life_at state.lives x ≡ Some l) × IsBy p l.status
+  pub owner : (p o x : ℕ) → x ≢ 0 → pointer_at S state.lives (latest state.lives) p o ≡ x → (l : Life) × (life_at state.lives x ≡ Some l) × IsBy p l.status
   owner p o x there is =
       let b = (belongs T S reads state h (everything state.lives) p o x there (to_all T S reads state h p o x is)).1 in
       (b.life, b.alive, b.holds.1)
@@ -96,7 +96,7 @@ module _ (T : Types) (state : StoreState) (h : IsConsistent T state) (node inode
 
   module _ (few : fs < 32) (top : ℕ) (root : root_of state fs ≡ Some top) where
     -- the root block is block 0's
-    root_owner : (top ≢ 0) × ((l : Life) × (life_at state.lives top ≡ Some l) × IsBy 0 l.status)
+    pub root_owner : (top ≢ 0) × ((l : Life) × (life_at state.lives top ≡ Some l) × IsBy 0 l.status)
     root_owner = by ((slot_now state fs).0 == 0) refl root
       where
         by : (t : Bool) → ((slot_now state fs).0 == 0) ≡ t → (if t then None else Some (slot_now state fs).0) ≡ Some top →

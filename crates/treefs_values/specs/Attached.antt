@@ -1,8 +1,11 @@
 -- An inode that gets its number.
 --     IsTreeBelow       the blocks on the ways from a block have their types
 --     IsFreeInode       an inode of no number, with its tree
+--     IsEmptyBlock      a node without pointers, or a leaf of zeros
 --     IsPointerSet      one pointer, that led nowhere, leads to a block, and all else that is read of inodes and nodes is as before
 use Rattle.std.specs.Prelude.{◌≡◌, ◌≢◌, ◌⊎◌, ℕ, suc, ◌<◌, List, IsTrue, Some}
+use Rattle.xn_model.specs.BareDisks.{zeros}
+use Rattle.xn_model.specs.Root.{word_at}
 use Rattle.treefs_format.specs.Fields.{fields_of}
 use Rattle.treefs_format.specs.Inodes.{content_of, kind_of}
 use Rattle.treefs_format.specs.Paths.{leaf_count}
@@ -28,4 +31,16 @@ pub record IsPointerSet (node inode : ℕ) (type : ℕ → ℕ) (old new : ℕ �
   pub was : pointed old holder offset ≡ 0
   pub now : pointed new holder offset ≡ block
   pub others : (p o : ℕ) → IsTrue (has_pointer node inode (type p) o) → (p ≢ holder) ⊎ (o ≢ offset) → pointed new p o ≡ pointed old p o
-  pub contents : content_of (new holder) ≡ content_of (old holder)
+  -- of an inode the fields and the content, too
+  pub fields : type holder ≡ inode → fields_of (new holder) ≡ fields_of (old holder)
+  pub contents : type holder ≡ inode → content_of (new holder) ≡ content_of (old holder)
+
+-- attached at the end of a way from inode n that leads to height l
+pub record IsEmptyBlock (node inode : ℕ) (type : ℕ → ℕ) (content : ℕ → List ℕ) (n l block : ℕ) : Type 0 where
+  pub there : block ≢ 0
+  pub node_above : (k : ℕ) → l ≡ suc k → type block ≡ node
+  -- of an inode, and not of the table
+  pub leaf_of : l ≡ 0 → n ≢ 0
+  pub leaf_type : l ≡ 0 → type block ≡ 2
+  pub leaf_bytes : l ≡ 0 → content block ≡ zeros 512
+  pub bare : (o : ℕ) → IsTrue (has_pointer node inode (type block) o) → word_at (content block) o ≡ 0

@@ -7,3 +7,4 @@ pub mod KnownLayout
 pub mod Kinds
 pub mod Bytes
 pub mod Attached
+pub mod Begun

@@ -4,6 +4,7 @@
 --     links_parts          the changes of an edit that sets links, and where told times and a parent
 --     inode_with_links           an inode with other links, and where told other times and another parent
 --     KeepsBlocks          an edit that drops no block
+--     found_value          an inode that is found, as a value
 use Rattle.std.specs.Prelude.{◌≡◌, ◌==◌, ℕ, All, IsTrue, List, [], ◌∷◌, ◌++◌, Option, None, Some, if◌then◌else◌}
 use Rattle.treefs_format.specs.Fields.{IsInRange, are_adjoining}
 use Rattle.treefs_format.specs.declared.fields.Change.{Change}
@@ -11,6 +12,8 @@ use Rattle.treefs_format.specs.declared.fields.Change.TheVariants.{Links}
 use Rattle.treefs_model.specs.Acts.{Act}
 use Rattle.treefs_model.specs.Changes.{moved_to}
 use Rattle.treefs_model.specs.Files.{Inode}
+use Rattle.treefs_model.specs.Reading.{content_at, inode_with, key_in}
+use Rattle.treefs_lookup.specs.declared.inodes.Found.{Found}
 use Rattle.treefs_edits.specs.Kinds.{parent_parts, time_parts}
 use Rattle.treefs_edits.specs.declared.times.Times.{Times}
 
@@ -36,3 +39,6 @@ links_parts links times parent = (Links links ∷ []) ∷ (time_parts times ++ p
 
 abbrev pub KeepsBlocks : Act → Type 0
 KeepsBlocks act = act.edit.drops ≡ []
+
+abbrev pub found_value : (ℕ → List ℕ) → ℕ → Found → Inode
+found_value content top x = inode_with x.fields (content_at content (key_in content top) x.block x.fields.parent x.kind)

@@ -3,7 +3,8 @@
 ghost use Rattle.std.specs.Prelude.{◌≡◌, ◌≢◌, ◌<◌, ◌≤◌, ◌+◌, ◌-◌, ◌^◌, ℕ, All, Contains, IsTrue, List, Option, None, Some, Ok, [], ◌∷◌, false, fold, length};
 ghost use Rattle.xn_model.specs.Types.{Types};
 ghost use Rattle.xn_model.specs.Lives.{StoreState};
-ghost use Rattle.xn_model.specs.Calls.{root_of};
+ghost use Rattle.xn_model.specs.Calls.{init_of, root_of};
+ghost use Rattle.xn_model.specs.Root.{word_at};
 ghost use Rattle.xn_model.specs.Rules.{IsConsistent};
 ghost use Rattle.treefs_format.specs.Buckets.{room_behind};
 ghost use Rattle.treefs_format.specs.Candidates.{candidates, name_hash};
@@ -17,11 +18,11 @@ ghost use Rattle.treefs_format.specs.Records.{Entry, Record, end_of, records_of}
 ghost use Rattle.treefs_format.specs.Templates.{IsTree};
 ghost use Rattle.treefs_format.specs.declared.kind.Kind.{Kind};
 ghost use Rattle.treefs_format.specs.declared.kind.Kind.TheVariants.{Directory};
-ghost use Rattle.treefs_model.specs.Acts.{Act, Ran, changes_act, number_act, one_patch, patch_act, record_act};
+ghost use Rattle.treefs_model.specs.Acts.{Act, Ran, attach_act, changes_act, number_act, one_patch, patch_act, record_act};
 ghost use Rattle.treefs_model.specs.Changes.{moved_to, resized, with_bytes};
-ghost use Rattle.treefs_model.specs.Files.{Content, Inode, changed_at, with_inode, with_name};
-ghost use Rattle.treefs_model.specs.Reading.{block_at, bucket_of, byte_of, files_of, inode_of, inode_with, key_in, leaf_block};
-ghost use Rattle.treefs_model.specs.Trees.{has_name};
+ghost use Rattle.treefs_model.specs.Files.{Content, Inode, and_then, changed_at, found, number_in, with_inode, with_name};
+ghost use Rattle.treefs_model.specs.Reading.{block_at, bucket_of, byte_of, files_of, inode_of, inode_with, key_in, leaf_block, pointed};
+ghost use Rattle.treefs_model.specs.Trees.{has_name, has_pointer};
 ghost use Rattle.treefs_lookup.specs.Buckets.{bucket_block, bucket_start};
 ghost use Rattle.treefs_lookup.specs.Bytes.{bytes_from, part_left};
 ghost use Rattle.treefs_lookup.specs.Inodes.{inode_found};
@@ -32,22 +33,23 @@ ghost use Rattle.treefs_lookup.specs.declared.names.Slot.{Slot};
 ghost use Rattle.treefs_edits.specs.Kinds.{links_act};
 ghost use Rattle.treefs_edits.specs.declared.times.Times.{Times};
 ghost use Rattle.treefs_edits.specs.Written.{all_written, written};
-ghost use Rattle.treefs_values.specs.Attached.{IsFreeInode, IsPointerSet};
+ghost use Rattle.treefs_values.specs.Attached.{IsEmptyBlock, IsFreeInode, IsPointerSet};
+ghost use Rattle.treefs_values.specs.Begun.{with_block};
 ghost use Rattle.treefs_values.specs.Bytes.{bucket_at, place_in_bucket, with_put};
 ghost use Rattle.treefs_values.specs.Kinds.{kinds};
 ghost use Rattle.treefs_values.specs.KnownLayout.{IsLayout};
 ghost use Rattle.treefs_values.specs.Names.{bucket_entries};
-ghost use Rattle.treefs_values.specs.Values.{AreChanges, KeepsBlocks, led_to, links_parts, inode_with_links};
+ghost use Rattle.treefs_values.specs.Values.{AreChanges, KeepsBlocks, found_value, inode_with_links, led_to, links_parts};
 ghost use Rattle.treefs_values.specs.Volumes.{IsWholeBlock, IsVolume};
 ghost use Rattle.treefs_values.specs.Ways.{ArePointersApart, IsTyped, IsWay, SamePointers, block_numbered};
 
 use treefs_format::law::{
-    changes_are_made, content_is_written, levels_are_apart, numbers_are_set, paths_are_leaves,
-    records_are_made, records_stand_in_buckets,
+    changes_are_made, content_is_written, inode_pointers_are_set, levels_are_apart,
+    numbers_are_set, paths_are_leaves, records_are_made, records_stand_in_buckets,
 };
 
 /// The laws of the layout, together.
-fn layout_is_known()
+pub fn layout_is_known()
     ensures { IsLayout }
 {
     content_is_written();
@@ -81,6 +83,14 @@ pub fn places_are_apart()
 {
     paths_are_leaves();
 }
+
+/// Look-ups of inodes and of names answer what the files say, each fault in its order.
+pub fn look_ups_are_values()
+    ensures inodes { (content : ℕ → List ℕ) (top n : ℕ) →
+        and_then (inode_found content top n) (λ x. Ok (found_value content top x)) ≡ found (files_of content top) n }
+    ensures numbers { (content : ℕ → List ℕ) (top d : ℕ) (name : List ℕ) →
+        and_then (entry_found content top d name) (λ slot. Ok slot.number) ≡ number_in (files_of content top) d name }
+{}
 
 /// The number of a record of a directory is set: its name leads there, with 0 nowhere, and all else is as before.
 pub fn names_lead_elsewhere()
@@ -180,6 +190,16 @@ pub fn sizes_change()
     layout_is_known();
 }
 
+/// An edit that attaches a block sets one pointer, and changes no other.
+pub fn attached_blocks_are_pointed_to()
+    ensures { (node inode : ℕ) (type : ℕ → ℕ) (content : ℕ → List ℕ) (holder offset ty block : ℕ) (behind : Option ℕ) → node ≢ inode → holder ≢ 0 →
+        IsWholeBlock (content holder) → IsTrue (has_pointer node inode (type holder) offset) → pointed content holder offset ≡ 0 → block < 2 ^ 32 →
+        let new = written (attach_act holder offset ty (block ∷ []) behind) content in
+        IsPointerSet node inode type content new holder offset block × IsWholeBlock (new holder) }
+{
+    inode_pointers_are_set();
+}
+
 /// The pointer of a number that is free comes to lead to an inode, which no number had: the files are as before, and the number has it.
 pub fn inodes_get_numbers()
     ensures { (node inode top : ℕ) (type : ℕ → ℕ) (content new : ℕ → List ℕ) → IsVolume node inode type content top → (n offset block : ℕ) (above : List ℕ) →
@@ -193,10 +213,33 @@ pub fn inodes_get_numbers()
     layout_is_known();
 }
 
+/// A node without pointers, or a leaf of zeros of an inode, is attached where none stood: the files are as before.
+pub fn empty_blocks_change_no_file()
+    ensures { (node inode top : ℕ) (type : ℕ → ℕ) (content new : ℕ → List ℕ) → IsVolume node inode type content top → (n l offset block : ℕ) (above : List ℕ) →
+        IsWay (offset ∷ above) l → let holder = block_at content (block_numbered content top n) above in holder ≢ 0 →
+        IsPointerSet node inode type content new holder offset block → IsEmptyBlock node inode type content n l block → block ≢ holder →
+        ArePointersApart node inode type new top → IsWholeBlock (new holder) →
+        IsVolume node inode type new top × (files_of new top ≡ files_of content top) }
+{
+    layout_is_known();
+}
+
 /// What a file system reads after edits that drop no block: their patches are written, and types stay.
 pub fn edits_are_read()
     ensures { (T : Types) (fs : ℕ) (acts : List Act) (old new : StoreState) → IsConsistent T old → All KeepsBlocks acts → Ran T fs acts old new (Ok tt) →
         IsConsistent T new × (readable new fs ≡ all_written acts (readable old fs)) × (kinds new fs ≡ kinds old fs) }
+{}
+
+/// A block that is begun is read, and is part of no file: the files are as before.
+pub fn begun_blocks_are_of_no_file()
+    ensures read { (T : Types) (old new : StoreState) → IsConsistent T old → (fs ty : ℕ) (bytes : List ℕ) (block entry : ℕ) →
+        init_of T old fs ty bytes ≡ Ok ((block, entry), new) → IsConsistent T new × (kinds old fs block ≡ 0)
+        × (readable new fs ≡ with_block (readable old fs) block bytes) × (kinds new fs ≡ with_block (kinds old fs) block ty) }
+    ensures files { (T : Types) (old new : StoreState) → IsConsistent T old → (fs ty : ℕ) (bytes : List ℕ) (block entry : ℕ) →
+        init_of T old fs ty bytes ≡ Ok ((block, entry), new) → (node inode top : ℕ) → fs < 32 → IsTree T node inode → root_of old fs ≡ Some top →
+        IsVolume node inode (kinds old fs) (readable old fs) top → IsWholeBlock bytes →
+        ((o : ℕ) → IsTrue (has_pointer node inode ty o) → word_at bytes o ≡ 0) →
+        IsVolume node inode (kinds new fs) (readable new fs) top × (files_of (readable new fs) top ≡ files_of (readable old fs) top) }
 {}
 
 /// Of the blocks that a file system may read no two pointers lead to one, and none to its root.

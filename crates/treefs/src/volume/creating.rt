@@ -6,10 +6,11 @@ ghost use Rattle.treefs.specs.Committing.{BeginsInRoom};
 ghost use Rattle.treefs.specs.Creating.{BeginDoes, CreateDoes, MkdirDoes, NewDoes, SymlinkDoes, moved_volume, new_fields};
 
 use crate::attributes::Attributes;
+use crate::beginning::begin_one;
 use crate::memory::{naming_entry, note_replaced, now_times, touch_naming};
 use crate::volume::Volume;
 use std::alloc::Global;
-use treefs_edits::{Memory, Tree, carry_out, has_room, lacks_memory, start_fault};
+use treefs_edits::{Memory, Tree, carry_out, has_room, lacks_memory};
 use treefs_format::inodes::new_inode;
 use treefs_format::{Fields, Kind};
 use treefs_model::Fault;
@@ -78,10 +79,7 @@ fn begin_block<S: Store>(
     if !has_room(store, tree.fs, memory.touched.len(), 2, &[]) {
         return Err(Fault::Full);
     }
-    match store.init(tree.fs, u32::from(tree.inode_type), inode) {
-        Ok((block, _)) => Ok(block),
-        Err(reason) => Err(start_fault(reason)),
-    }
+    begin_one(store, tree.fs, tree.inode_type, inode)
 }
 
 impl Volume {

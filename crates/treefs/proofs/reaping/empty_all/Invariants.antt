@@ -1,0 +1,16 @@
+use Rattle.std.proofs.Common.{◌≡◌, Result, drop}
+use Rattle.xn_model.specs.Lives.{StoreState}
+use Rattle.treefs_model.specs.declared.fault.Fault.{Fault}
+use Rattle.treefs.specs.Reaping.{Empties}
+use Rattle.treefs.proofs.reaping.empty_all.Given as goal
+
+-- what is done of the numbers that are left is done of all
+abbrev pub invariant-loop-number : goal.invariant-loop-number
+invariant-loop-number g l =
+    let T = g.S.Store.types_of l.fn.store in
+    record {
+      types : g.S.Store.types_of l.store ≡ T;
+      goes : (new : StoreState) (result : Result (Unit {0}) Fault) →
+          Empties T l.tree l.memory (drop l.number-index l.numbers) (g.S.Store.state_of l.store) new result →
+          Empties T l.tree l.memory l.numbers (g.S.Store.state_of l.fn.store) new result;
+    }

@@ -1,0 +1,11 @@
+mod Touching
+mod InRange
+mod Seeing
+mod Ended
+mod NamesEnd
+mod Planned
+mod Unlinked
+mod Removed
+mod LookUps
+mod Timed
+mod Attributed

@@ -1,0 +1,65 @@
+// Laws of calls.
+
+ghost use Rattle.std.specs.Prelude.{◌≡◌, ℕ, ℤ, FitsSigned, List, Ok, true};
+ghost use Rattle.std.specs.Int.{w64};
+ghost use Rattle.xn_model.specs.Types.{Types};
+ghost use Rattle.xn_model.specs.Lives.{StoreState};
+ghost use Rattle.treefs_model.specs.Changes.{removed, unlinked, with_mtime};
+ghost use Rattle.treefs_model.specs.Files.{and_then, changed_at, found, number_in};
+ghost use Rattle.treefs_lookup.specs.Readable.{readable};
+ghost use Rattle.treefs.specs.Reads.{lookup_of, stat_of};
+ghost use Rattle.treefs.specs.Setting.{AttributesDoes, MtimeDoes};
+ghost use Rattle.treefs.specs.Unlinking.{RmdirDoes, UnlinkDoes};
+ghost use Rattle.treefs.specs.declared.volume.Volume.{Volume};
+ghost use Rattle.treefs_values.specs.Values.{found_value};
+ghost use Rattle.treefs_byte_plans.specs.declared.attributes.Attributes.{Attributes};
+ghost use Rattle.treefs_laws.specs.Kept.{HasNoNames, IsKept, files_in};
+ghost use Rattle.treefs_laws.specs.Setting.{AreInWidth, with_attributes};
+
+use treefs_format::law::modes_are_read_back;
+use treefs_values::law::layout_is_known;
+
+/// Look-ups of names answer what the files say, each fault in its order, and so does `stat`.
+pub fn look_ups_answer_the_files()
+    ensures names { (state : StoreState) (volume : Volume) (d : ℕ) (name : List ℕ) →
+        lookup_of (readable state volume.tree.fs.number) volume.tree.top d name ≡ number_in (files_in state volume) d name }
+    ensures inodes { (state : StoreState) (volume : Volume) (n : ℕ) → let content = readable state volume.tree.fs.number in
+        and_then (stat_of content volume.tree.top volume.memory n) (λ x. Ok (found_value content volume.tree.top x)) ≡ found (files_in state volume) n }
+{}
+
+/// `set_mtime` sets when the content of an inode changed, and does nothing else.
+pub fn set_mtime_sets_a_time()
+    ensures { (T : Types) (state : StoreState) (volume volume' : Volume) (n : ℕ) (mtime : ℤ) → FitsSigned w64 mtime → IsKept T state volume →
+        MtimeDoes state volume volume' n mtime (Ok tt) → IsKept T state volume' × (and_then (found (files_in state volume) n)
+        (λ inode. Ok (changed_at (files_in state volume) n (with_mtime volume.memory.clock mtime))) ≡ Ok (files_in state volume')) }
+{}
+
+/// `set_attributes` sets those that are told, and when the inode changed, and does nothing else.
+pub fn set_attributes_sets_what_is_told()
+    ensures { (T : Types) (state state' : StoreState) (volume volume' : Volume) (n : ℕ) (attributes : Attributes) → AreInWidth attributes →
+        IsKept T state volume → AttributesDoes T state state' volume volume' n attributes (Ok tt) →
+        IsKept T state' volume' × (and_then (found (files_in state volume) n)
+        (λ inode. Ok (changed_at (files_in state volume) n (with_attributes volume.memory.clock attributes))) ≡ Ok (files_in state' volume')) }
+{
+    layout_is_known();
+    modes_are_read_back();
+}
+
+/// `unlink` ends the name and does nothing else: the inode has a link fewer, and the directory the caller's time.
+pub fn unlink_ends_a_name()
+    ensures { (T : Types) (state state' : StoreState) (volume volume' : Volume) (d : ℕ) (name : List ℕ) → IsKept T state volume →
+        UnlinkDoes T state state' volume volume' d name (Ok tt) →
+        IsKept T state' volume' × (unlinked (files_in state volume) volume.memory.clock d name ≡ Ok (files_in state' volume')) }
+{
+    layout_is_known();
+}
+
+/// `rmdir` ends the name of a directory in which no name stands, and does nothing else.
+pub fn rmdir_ends_an_empty_directory()
+    ensures { (T : Types) (state state' : StoreState) (volume volume' : Volume) (d : ℕ) (name : List ℕ) → IsKept T state volume →
+        RmdirDoes T state state' volume volume' d name (Ok tt) →
+        IsKept T state' volume' × (n : ℕ) × (number_in (files_in state volume) d name ≡ Ok n) × HasNoNames (files_in state volume) n
+        × (removed (files_in state volume) volume.memory.clock d name true ≡ Ok (files_in state' volume')) }
+{
+    layout_is_known();
+}

@@ -1,0 +1,5 @@
+//! What calls make of the files of a volume of trees, in the words of POSIX: laws of what the calls do, without code.
+//! May touch: nothing.
+#![tactic(auto)]
+
+pub mod law;

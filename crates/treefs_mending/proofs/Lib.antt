@@ -1,0 +1,10 @@
+pub mod Gathered
+pub mod LiveNames
+pub mod Walks
+pub mod Padded
+pub mod InTable
+pub mod DeadRecords
+pub mod Counted
+pub mod Whole
+pub mod FreeNumbers
+pub mod Single

@@ -1,0 +1,9 @@
+pub mod Names
+pub mod Tallies
+pub mod Surveys
+pub mod InRoom
+pub mod Ends
+pub mod Rewritings
+pub mod Inodes
+pub mod Orphans
+pub mod Table
