@@ -2,44 +2,27 @@
 
 ghost use Rattle.std.specs.Prelude.{◌<◌};
 
-use crate::byte_calls::{byte_call, write_done};
-use crate::recorder::Recorder;
-use crate::reports::{write_fault, write_found, write_listing, write_number};
-use crate::text::{parse_bytes, parse_name, write_bytes};
-use crate::transcript::PlayFault;
-use crate::volumes::{Made, make_volume, write_times};
-use std::alloc::Global;
-use std::fmt::Write;
+use crate::reports::times_of;
+use crate::text::Text;
+use crate::volumes::{Made, make_volume};
+use crate::words::{Asked, Change, Look, Make, Verb, read_line};
+use std::alloc::{AllocError, Global};
 use std::thread::Threads;
 use treefs::{Attributes, Volume};
+use treefs_byte_plans::{Attributes as Settings, Owner};
 use treefs_format::Kind;
 use treefs_lookup::{find_entry, find_inode, read, read_link};
 use treefs_model::Fault;
-use world::{Event, Reply, Running};
+use xn_state::Store;
+
+/// The most bytes that stand in an inode's own block.
+const MOST_BYTES: usize = 384;
 
 /// The volume of a transcript.
 #[derive(Drop)]
 pub struct Player {
     alloc: Global,
     made: Option<Made>,
-}
-
-/// The number that a word says.
-fn number(word: &str) -> Option<u32> {
-    word.parse::<u32>().ok()
-}
-
-/// The permissions that a word says in octal digits.
-fn permissions(word: &str) -> u16
-    ensures { result < 4096 }
-{
-    let mut value = 0u16;
-    for byte in word.as_bytes() {
-        if b'0' <= *byte && *byte <= b'7' {
-            value = (value % 512) * 8 + u16::from(*byte - b'0');
-        }
-    }
-    value % 4096
 }
 
 /// What a new inode of these permissions says beside.
@@ -66,344 +49,240 @@ impl Player {
         &mut self,
         rt: &(impl Threads + Sync),
         line: &str,
-    ) -> Result<Option<String>, PlayFault> {
-        let words: Vec<&str> = line.split(' ').collect(self.alloc)?;
-        if let ["mkfs", blocks, seed] = words.as_slice() {
-            return self.mkfs(rt, blocks, seed);
-        }
-        let Some(made) = &mut self.made else {
+    ) -> Result<Option<String>, AllocError> {
+        let Some(asked) = read_line(self.alloc, line)? else {
             return Ok(None);
         };
-        let mut told = String::new(self.alloc);
-        if !answer(self.alloc, made, &words, &mut told)? {
+        if let Verb::Mkfs = asked.verb
+            && !self.mkfs(rt, &asked)?
+        {
             return Ok(None);
         }
-        let mut printed = made.store.take_lines(self.alloc);
-        printed.push_str("= ")?;
-        printed.push_str(told.as_str())?;
-        printed.push_str("\n")?;
-        Ok(Some(printed))
+        match &mut self.made {
+            Some(made) => Ok(Some(printed(self.alloc, made, &asked)?)),
+            None => Ok(None),
+        }
     }
 
-    /// Makes the volume.
-    fn mkfs(
-        &mut self,
-        rt: &(impl Threads + Sync),
-        blocks: &str,
-        seed: &str,
-    ) -> Result<Option<String>, PlayFault> {
-        let (Some(blocks), Some(seed)) = (number(blocks), number(seed)) else {
-            return Ok(None);
+    /// Makes the volume, and answers whether there is one.
+    fn mkfs(&mut self, rt: &(impl Threads + Sync), asked: &Asked) -> Result<bool, AllocError> {
+        let (Some(blocks), Some(seed)) = (asked.some_number(1), asked.some_number(2)) else {
+            return Ok(false);
         };
-        let Some(mut made) = make_volume(rt, self.alloc, blocks, seed)? else {
-            return Ok(None);
-        };
-        let mut printed = made.store.take_lines(self.alloc);
-        printed.push_str("= ok\n")?;
-        self.made = Some(made);
-        Ok(Some(printed))
+        let made = make_volume(rt, self.alloc, blocks, seed)?;
+        if made.is_none() {
+            return Ok(false);
+        }
+        self.made = made;
+        Ok(true)
     }
 }
 
-/// Makes a call and writes its answer; `false` where these words are none.
+/// What a call prints.
+fn printed(alloc: Global, made: &mut Made, asked: &Asked) -> Result<String, AllocError> {
+    let mut told = Text::new(alloc);
+    answer(alloc, made, asked, &mut told)?;
+    let mut printed = made.store.take_lines(alloc);
+    printed.put("= ");
+    printed.put_all(&told);
+    printed.put("\n");
+    printed.finished()
+}
+
+/// Makes a call or a step of the device, and tells its answer.
 fn answer(
     alloc: Global,
     made: &mut Made,
-    words: &[&str],
-    out: &mut String,
-) -> Result<bool, PlayFault> {
-    match words {
-        ["create", directory, name] => make(alloc, made, out, directory, name, "644", false)?,
-        ["create", directory, name, mode] => {
-            make(alloc, made, out, directory, name, mode, false)?;
-        }
-        ["mkdir", directory, name] => make(alloc, made, out, directory, name, "755", true)?,
-        ["mkdir", directory, name, mode] => make(alloc, made, out, directory, name, mode, true)?,
-        ["symlink", directory, name, target] => symlink(alloc, made, out, directory, name, target)?,
-        ["link", inode, directory, name] => link(alloc, made, out, inode, directory, name)?,
-        ["unlink", directory, name] => unlink(alloc, made, out, directory, name)?,
-        ["rmdir", directory, name] => rmdir(alloc, made, out, directory, name)?,
-        ["rename", directory, name, other, new_name] => {
-            rename(alloc, made, out, [directory, other], [name, new_name])?;
-        }
-        _ => {
-            return Ok(
-                write_parts(alloc, made, words, out)?
-                    || byte_call(alloc, made, words, out)?
-                    || look(alloc, made, words, out)?,
-            );
-        }
+    asked: &Asked,
+    told: &mut Text,
+) -> Result<(), AllocError> {
+    let Made { store, volume } = made;
+    call(alloc, store, volume, asked, told)?;
+    match asked.verb {
+        Verb::Wave => store.wave(alloc)?,
+        Verb::Flush => store.drain(),
+        _ => {}
     }
-    Ok(true)
+    Ok(())
+}
+
+/// Makes a call, and tells its answer. Before a flush the times are written, of the other steps nothing is done.
+fn call<S: Store>(
+    alloc: Global,
+    store: &mut S,
+    volume: &mut Volume,
+    asked: &Asked,
+    told: &mut Text,
+) -> Result<(), AllocError> {
+    match asked.verb {
+        Verb::Make(make) => told.answer(self::make(alloc, store, volume, make, asked)),
+        Verb::Symlink => symlink(alloc, store, volume, asked, told),
+        Verb::Change(change) => told.done(self::change(alloc, store, volume, change, asked)),
+        Verb::Write => {
+            let (inode, at) = (asked.number(1), asked.size(2));
+            told.written(volume.write_some(alloc, store, inode, at, &asked.bytes));
+        }
+        Verb::Look(look) => return self::look(alloc, store, volume, look, asked, told),
+        Verb::Time => {
+            volume.memory.clock = asked.time(1);
+            told.put("ok");
+        }
+        Verb::Flush => {
+            told.done(volume.write_times(alloc, store));
+        }
+        Verb::Mkfs | Verb::Wave => told.put("ok"),
+    }
+    Ok(())
 }
 
 /// Makes a file or a directory.
-fn make(
+fn make<S: Store>(
     alloc: Global,
-    made: &mut Made,
-    out: &mut String,
-    directory: &str,
-    name: &str,
-    mode: &str,
-    is_directory: bool,
-) -> Result<(), PlayFault> {
-    let d = number(directory).unwrap_or(0);
-    let name = parse_name(alloc, name)?.unwrap_or(Vec::new(alloc));
-    let attributes = attributes(permissions(mode));
-    let answered = if is_directory {
-        made.volume
-            .mkdir(alloc, &mut made.store, d, &name, attributes)
-    } else {
-        made.volume
-            .create(alloc, &mut made.store, d, &name, attributes)
-    };
-    write_number(out, answered)?;
-    Ok(())
-}
-
-/// Makes a symbolic link with a short target.
-fn symlink(
-    alloc: Global,
-    made: &mut Made,
-    out: &mut String,
-    directory: &str,
-    name: &str,
-    target: &str,
-) -> Result<(), PlayFault> {
-    let d = number(directory).unwrap_or(0);
-    let name = parse_name(alloc, name)?.unwrap_or(Vec::new(alloc));
-    let target = parse_bytes(alloc, target)?.unwrap_or(Vec::new(alloc));
-    if target.len() > 384 {
-        out.push_str("a long target")?;
-        return Ok(());
+    store: &mut S,
+    volume: &mut Volume,
+    make: Make,
+    asked: &Asked,
+) -> Result<u32, Fault> {
+    let first = asked.number(1);
+    match make {
+        Make::Create => {
+            let attributes = attributes(asked.permissions(0o644));
+            volume.create(alloc, store, first, &asked.name, attributes)
+        }
+        Make::Mkdir => {
+            let attributes = attributes(asked.permissions(0o755));
+            volume.mkdir(alloc, store, first, &asked.name, attributes)
+        }
+        Make::Begin => begin(store, volume, asked),
+        Make::Commit => {
+            let replace = asked.says(4, "replace");
+            volume.commit(alloc, store, first, asked.number(2), &asked.name, replace)
+        }
+        Make::Put => {
+            let block = begin(store, volume, asked)?;
+            volume.commit(alloc, store, block, first, &asked.name, true)
+        }
     }
-    let attributes = attributes(0o777);
-    let answered = made
-        .volume
-        .symlink(alloc, &mut made.store, d, &name, attributes, &target);
-    write_number(out, answered)?;
-    Ok(())
-}
-
-/// Gives a file one more name.
-fn link(
-    alloc: Global,
-    made: &mut Made,
-    out: &mut String,
-    inode: &str,
-    directory: &str,
-    name: &str,
-) -> Result<(), PlayFault> {
-    let n = number(inode).unwrap_or(0);
-    let d = number(directory).unwrap_or(0);
-    let name = parse_name(alloc, name)?.unwrap_or(Vec::new(alloc));
-    let done = made.volume.link(alloc, &mut made.store, n, d, &name);
-    write_done(out, done)
-}
-
-/// Takes a name of a file.
-fn unlink(
-    alloc: Global,
-    made: &mut Made,
-    out: &mut String,
-    directory: &str,
-    name: &str,
-) -> Result<(), PlayFault> {
-    let d = number(directory).unwrap_or(0);
-    let name = parse_name(alloc, name)?.unwrap_or(Vec::new(alloc));
-    let done = made.volume.unlink(alloc, &mut made.store, d, &name);
-    write_done(out, done)
-}
-
-/// Takes a name of a directory.
-fn rmdir(
-    alloc: Global,
-    made: &mut Made,
-    out: &mut String,
-    directory: &str,
-    name: &str,
-) -> Result<(), PlayFault> {
-    let d = number(directory).unwrap_or(0);
-    let name = parse_name(alloc, name)?.unwrap_or(Vec::new(alloc));
-    let done = made.volume.rmdir(alloc, &mut made.store, d, &name);
-    write_done(out, done)
-}
-
-/// Moves a name.
-fn rename(
-    alloc: Global,
-    made: &mut Made,
-    out: &mut String,
-    directories: [&str; 2],
-    names: [&str; 2],
-) -> Result<(), PlayFault> {
-    let from = number(directories[0]).unwrap_or(0);
-    let to = number(directories[1]).unwrap_or(0);
-    let name = parse_name(alloc, names[0])?.unwrap_or(Vec::new(alloc));
-    let new_name = parse_name(alloc, names[1])?.unwrap_or(Vec::new(alloc));
-    let done = made
-        .volume
-        .rename(alloc, &mut made.store, from, &name, to, &new_name);
-    write_done(out, done)
-}
-
-/// A call that begins a file, or gives it a name; `false` where these words are none.
-fn write_parts(
-    alloc: Global,
-    made: &mut Made,
-    words: &[&str],
-    out: &mut String,
-) -> Result<bool, PlayFault> {
-    match words {
-        ["begin", head] => {
-            let begun = begin(alloc, made, head)?;
-            write_number(out, begun)?;
-        }
-        ["commit", block, directory, name, kept] => {
-            let block = number(block).unwrap_or(0);
-            let replace = *kept == "replace";
-            let named = commit(alloc, made, block, directory, name, replace)?;
-            write_number(out, named)?;
-        }
-        ["put", directory, name, head] => {
-            let named = match begin(alloc, made, head)? {
-                Ok(block) => commit(alloc, made, block, directory, name, true)?,
-                Err(fault) => Err(fault),
-            };
-            write_number(out, named)?;
-        }
-        _ => return Ok(false),
-    }
-    Ok(true)
 }
 
 /// Begins a file with at most 384 bytes.
-fn begin(alloc: Global, made: &mut Made, head: &str) -> Result<Result<u32, Fault>, PlayFault> {
-    let head = parse_bytes(alloc, head)?.unwrap_or(Vec::new(alloc));
-    if head.len() > 384 {
-        return Ok(Err(Fault::TooLarge));
+fn begin<S: Store>(store: &mut S, volume: &Volume, asked: &Asked) -> Result<u32, Fault> {
+    if asked.bytes.len() > MOST_BYTES {
+        return Err(Fault::TooLarge);
     }
-    let attributes = attributes(0o644);
-    Ok(
-        made.volume
-            .begin(&mut made.store, Kind::File, attributes, &head),
-    )
+    volume.begin(store, Kind::File, attributes(0o644), &asked.bytes)
 }
 
-/// Gives a file that was begun a name.
-fn commit(
+/// Makes a symbolic link with a short target.
+fn symlink<S: Store>(
     alloc: Global,
-    made: &mut Made,
-    block: u32,
-    directory: &str,
-    name: &str,
-    replace: bool,
-) -> Result<Result<u32, Fault>, PlayFault> {
-    let d = number(directory).unwrap_or(0);
-    let name = parse_name(alloc, name)?.unwrap_or(Vec::new(alloc));
-    Ok(
-        made.volume
-            .commit(alloc, &mut made.store, block, d, &name, replace),
-    )
+    store: &mut S,
+    volume: &mut Volume,
+    asked: &Asked,
+    told: &mut Text,
+) {
+    if asked.bytes.len() > MOST_BYTES {
+        return told.put("a long target");
+    }
+    let (directory, attributes) = (asked.number(1), attributes(0o777));
+    told.answer(volume.symlink(
+        alloc,
+        store,
+        directory,
+        &asked.name,
+        attributes,
+        &asked.bytes,
+    ));
 }
 
-/// A call that only looks, or one of the device; `false` where these words are none.
-fn look(
+/// Changes names, bytes or attributes.
+fn change<S: Store>(
     alloc: Global,
-    made: &mut Made,
-    words: &[&str],
-    out: &mut String,
-) -> Result<bool, PlayFault> {
-    match words {
-        ["lookup", directory, name] => lookup(alloc, made, out, directory, name)?,
-        ["stat", inode] => {
-            let n = number(inode).unwrap_or(0);
-            let tree = made.volume.tree;
-            let found = find_inode(&made.store, tree.fs, tree.top, n);
-            write_found(out, &made.volume.memory, n, found)?;
+    store: &mut S,
+    volume: &mut Volume,
+    change: Change,
+    asked: &Asked,
+) -> Result<(), Fault> {
+    let (first, name) = (asked.number(1), asked.name.as_slice());
+    match change {
+        Change::Link => volume.link(alloc, store, first, asked.number(2), name),
+        Change::Unlink => volume.unlink(alloc, store, first, name),
+        Change::Rmdir => volume.rmdir(alloc, store, first, name),
+        Change::Rename => {
+            volume.rename(alloc, store, first, name, asked.number(3), &asked.new_name)
         }
-        ["readdir", directory] => {
-            write_listing(alloc, out, made, number(directory).unwrap_or(0))?;
+        Change::Truncate => volume.truncate(alloc, store, first, asked.size(2)),
+        Change::Trim => volume.trim(alloc, store, first),
+        Change::Reap => reap(alloc, store, volume, asked),
+        Change::Utimens => volume.set_mtime(store, first, asked.time(2)),
+        Change::Chmod => {
+            let settings = Settings {
+                permissions: Some(asked.mode(2)),
+                owner: None,
+                mtime: None,
+            };
+            volume.set_attributes(alloc, store, first, settings)
         }
-        ["read", inode, at, count] => read_some(alloc, made, out, inode, at, count)?,
-        ["readlink", inode] => {
+        Change::Chown => {
+            let owner = Owner {
+                uid: asked.number(2),
+                gid: asked.number(3),
+            };
+            let settings = Settings {
+                permissions: None,
+                owner: Some(owner),
+                mtime: None,
+            };
+            volume.set_attributes(alloc, store, first, settings)
+        }
+    }
+}
+
+/// Frees the inodes that are told, or else all that have no links, numbers rising.
+fn reap<S: Store>(
+    alloc: Global,
+    store: &mut S,
+    volume: &mut Volume,
+    asked: &Asked,
+) -> Result<(), Fault> {
+    let mut numbers = asked.numbers(alloc);
+    if numbers.is_empty() {
+        let _copied = numbers.extend_from_slice(&volume.memory.orphans);
+        numbers.sort_unstable();
+    }
+    volume.reap(alloc, store, &numbers)
+}
+
+/// Looks, and tells what there is.
+fn look<S: Store>(
+    alloc: Global,
+    store: &S,
+    volume: &Volume,
+    look: Look,
+    asked: &Asked,
+    told: &mut Text,
+) -> Result<(), AllocError> {
+    let (fs, top, first) = (volume.tree.fs, volume.tree.top, asked.number(1));
+    match look {
+        Look::Lookup => match find_entry(store, fs, top, first, &asked.name) {
+            Ok(slot) => told.number("", slot.number),
+            Err(fault) => told.fault(fault),
+        },
+        Look::Stat => match find_inode(store, fs, top, first) {
+            Ok(found) => told.found(times_of(volume, first, &found), found),
+            Err(fault) => told.fault(fault),
+        },
+        Look::Readdir => told.listing(store, volume, first),
+        Look::Read => {
+            let mut bytes = vec![in alloc; 0u8; asked.number(3) as usize]?;
+            let answer = read(store, fs, top, first, asked.size(2), &mut bytes);
+            told.read(&bytes, answer);
+        }
+        Look::Readlink => {
             let mut bytes = [0u8; 512];
-            let tree = made.volume.tree;
-            let n = number(inode).unwrap_or(0);
-            match read_link(&made.store, tree.fs, tree.top, n, 0, &mut bytes) {
-                Ok(count) => write_bytes(out, bytes.get(..count).unwrap_or(&[]))?,
-                Err(fault) => write_fault(out, fault)?,
-            }
+            let answer = read_link(store, fs, top, first, 0, &mut bytes);
+            told.read(&bytes, answer);
         }
-        _ => return step(alloc, made, words, out),
-    }
-    Ok(true)
-}
-
-/// Looks up a name.
-fn lookup(
-    alloc: Global,
-    made: &Made,
-    out: &mut String,
-    directory: &str,
-    name: &str,
-) -> Result<(), PlayFault> {
-    let tree = made.volume.tree;
-    let d = number(directory).unwrap_or(0);
-    let name = parse_name(alloc, name)?.unwrap_or(Vec::new(alloc));
-    match find_entry(&made.store, tree.fs, tree.top, d, &name) {
-        Ok(slot) => write_number(out, Ok(slot.number))?,
-        Err(fault) => write_fault(out, fault)?,
     }
     Ok(())
-}
-
-/// Reads bytes of a file.
-fn read_some(
-    alloc: Global,
-    made: &Made,
-    out: &mut String,
-    inode: &str,
-    at: &str,
-    count: &str,
-) -> Result<(), PlayFault> {
-    let tree = made.volume.tree;
-    let n = number(inode).unwrap_or(0);
-    let at = at.parse::<u64>().unwrap_or(0);
-    let mut bytes = vec![in alloc; 0u8; number(count).unwrap_or(0) as usize]?;
-    match read(&made.store, tree.fs, tree.top, n, at, &mut bytes) {
-        Ok(count) => write_bytes(out, bytes.get(..count).unwrap_or(&[]))?,
-        Err(fault) => write_fault(out, fault)?,
-    }
-    Ok(())
-}
-
-/// A step of the device, or of the clock; `false` where these words are none.
-fn step(
-    alloc: Global,
-    made: &mut Made,
-    words: &[&str],
-    out: &mut String,
-) -> Result<bool, PlayFault> {
-    match words {
-        ["time", time] => made.volume.memory.clock = time.parse::<i64>().unwrap_or(0),
-        ["wave"] => {
-            let blocks = made.store.wave(alloc)?;
-            let mut line = String::from_str(alloc, "  wave >")?;
-            for block in blocks.iter() {
-                write!(line, " {block}")?;
-            }
-            line.push_str("\n")?;
-            made.store.note(line.as_str())?;
-        }
-        ["flush"] => {
-            write_times(alloc, made)?;
-            let writes = made.store.drain();
-            let line = format!(in alloc; "  drain > writes {writes}\n")?;
-            made.store.note(line.as_str())?;
-        }
-        _ => return Ok(false),
-    }
-    out.push_str("ok")?;
-    Ok(true)
 }

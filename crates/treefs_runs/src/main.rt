@@ -3,7 +3,6 @@
 // May touch: memory, threads, files, streams.
 #![tactic(auto)]
 
-mod byte_calls;
 mod calls;
 mod device;
 mod recorder;
@@ -11,30 +10,44 @@ mod reports;
 mod text;
 mod transcript;
 mod volumes;
+mod words;
 
 use std::process::ExitCode;
+use std::thread::Threads;
 use std::{env, fs, io};
-use transcript::play;
+use transcript::{Played, play};
 
-fn main(rt: HostRuntime) -> io::Result<ExitCode> {
-    let alloc = rt.alloc();
-    let names: Vec<String> = env::args(&rt)?.skip(1).collect(alloc)?;
-    let mut calls: usize = 0;
-    let mut lines: usize = 0;
-    for name in names.iter() {
-        let transcript = fs::read_to_string(&rt, name.as_str())?;
-        match play(&rt, alloc, transcript.as_str()) {
-            Ok(played) => {
-                calls = calls.saturating_add(played.calls);
-                lines = lines.saturating_add(played.lines);
-            }
-            Err(fault) => {
-                println!(rt; "{name}: {fault}")?;
-                return Ok(ExitCode::from(1));
-            }
+/// Plays the transcript of a name, and counts what is as written. `false` where something is not, which is printed. Threads are started by the second handle
+/// alone.
+fn play_file(
+    rt: &HostRuntime,
+    threads: &(impl Threads + Sync),
+    name: &str,
+    sum: &mut Played,
+) -> io::Result<bool> {
+    let transcript = fs::read_to_string(rt, name)?;
+    match play(threads, rt.alloc(), transcript.as_str()) {
+        Ok(played) => {
+            sum.calls = sum.calls.saturating_add(played.calls);
+            sum.lines = sum.lines.saturating_add(played.lines);
+            Ok(true)
+        }
+        Err(fault) => {
+            println!(rt; "{name}: {fault}")?;
+            Ok(false)
         }
     }
-    let count = names.len();
+}
+
+fn main(rt: HostRuntime) -> io::Result<ExitCode> {
+    let names: Vec<String> = env::args(&rt)?.skip(1).collect(rt.alloc())?;
+    let mut sum = Played { calls: 0, lines: 0 };
+    for name in names.iter() {
+        if !play_file(&rt, &rt, name.as_str(), &mut sum)? {
+            return Ok(ExitCode::from(1));
+        }
+    }
+    let (count, calls, lines) = (names.len(), sum.calls, sum.lines);
     println!(rt; "{count} transcripts, {calls} calls, {lines} lines, all as written")?;
     Ok(ExitCode::from(0))
 }

@@ -3,65 +3,70 @@
 ghost use Rattle.std.specs.Prelude.{◌≡◌};
 ghost use Rattle.xn_state.specs.Events.{IsNoCrash};
 
-use crate::text::{without_end, write_bytes};
+use crate::text::{Text, without_end};
 use edit_list::{Edit, EditId, Fs};
-use std::alloc::{AllocError, Global};
-use std::fmt::Write;
+use std::alloc::Global;
 use std::marker::Model;
 use templates::Template;
 use world::{Event, Reply, Running};
 use xn_model::Refusal;
 use xn_state::Store;
 
-/// A store, and the lines of the calls that changed it since they were last taken. Where there was no memory for a line it is not noted.
-pub struct Recorder<S: Store> {
+/// A store, and the lines of the calls that changed it since they were last taken.
+pub struct Recorder<S> {
     store: S,
-    lines: String,
+    lines: Text,
 }
 
-impl<S: Store> Model for Recorder<S> {
+impl<S> Model for Recorder<S> {
     ghost Value = { S };
 
     ghost view = { λ a. a.store };
 }
 
-impl<S: Store + Drop> Drop for Recorder<S> {
+impl<S: Drop> Drop for Recorder<S> {
     fn drop(self) {
         let Recorder { store: _, lines: _ } = self;
     }
 }
 
-impl<S: Store> Recorder<S> {
+impl<S> Recorder<S> {
     /// The store, of which nothing is noted yet.
     pub fn new(alloc: Global, store: S) -> Recorder<S>
         ensures { result ≡ store }
     {
         Recorder {
             store,
-            lines: String::new(alloc),
+            lines: Text::new(alloc),
         }
     }
 
-    /// The store, and what was noted of it.
-    pub fn into_parts(self) -> (S, String)
-        ensures { result.0 ≡ self }
-    {
-        let Recorder { store, lines } = self;
-        (store, lines)
-    }
-
-    /// Notes a line.
-    pub fn note(&mut self, line: &str) -> Result<(), AllocError>
+    /// Notes a part of a line.
+    pub fn note(&mut self, part: &str)
         ensures { self.new ≡ self.old }
     {
-        self.lines.push_str(line)
+        self.lines.put(part);
+    }
+
+    /// Notes a part of a line, and a number behind it.
+    pub fn note_number(&mut self, part: &str, number: u32)
+        ensures { self.new ≡ self.old }
+    {
+        self.lines.number(part, number);
+    }
+
+    /// Notes bytes.
+    pub fn note_bytes(&mut self, bytes: &[u8])
+        ensures { self.new ≡ self.old }
+    {
+        self.lines.bytes(bytes);
     }
 
     /// Takes what was noted.
-    pub fn take_lines(&mut self, alloc: Global) -> String
+    pub fn take_lines(&mut self, alloc: Global) -> Text
         ensures { self.new ≡ self.old }
     {
-        std::mem::replace(&mut self.lines, String::new(alloc))
+        self.lines.take(alloc)
     }
 }
 
@@ -79,94 +84,82 @@ impl Recorder<Running> {
     }
 }
 
-/// How a call ended: the number that it answered, or the refusal.
-fn write_answer(out: &mut String, answer: Result<EditId, Refusal>) -> Result<(), AllocError> {
-    match answer {
-        Ok(edit) => {
-            let number = edit.number();
-            writeln!(out, " > edit {number}")
+impl Text {
+    /// How a call ended: the number that it answered, or the refusal.
+    fn end_line(&mut self, answer: &Result<EditId, Refusal>) {
+        match answer {
+            Ok(edit) => self.size(" > edit ", edit.number()),
+            Err(refusal) => self.refused(*refusal),
         }
-        Err(refusal) => write_refusal(out, refusal),
+        self.put("\n");
     }
-}
 
-/// A refusal.
-fn write_refusal(out: &mut String, refusal: Refusal) -> Result<(), AllocError> {
-    writeln!(out, " > refused {refusal}")
-}
+    /// That a call was refused.
+    fn refused(&mut self, refusal: Refusal) {
+        self.put(" > refused ");
+        self.refusal(refusal);
+    }
 
-/// The line of a block that is begun.
-fn write_init(
-    out: &mut String,
-    fs: Fs,
-    ty: u32,
-    bytes: &[u8; 512],
-    answer: &Result<(u32, EditId), Refusal>,
-) -> Result<(), AllocError> {
-    let fs = fs.number();
-    write!(out, "  init {fs} {ty} ")?;
-    write_bytes(out, without_end(bytes))?;
-    match answer {
-        Ok((block, edit)) => {
-            let number = edit.number();
-            writeln!(out, " > block {block} edit {number}")
+    /// The line of a block that is begun.
+    fn init_line(
+        &mut self,
+        fs: Fs,
+        ty: u32,
+        bytes: &[u8; 512],
+        answer: &Result<(u32, EditId), Refusal>,
+    ) {
+        self.number("  init ", u32::from(fs.number()));
+        self.number(" ", ty);
+        self.put(" ");
+        self.bytes(without_end(bytes));
+        match answer {
+            Ok((block, edit)) => {
+                self.number(" > block ", *block);
+                self.size(" edit ", edit.number());
+            }
+            Err(refusal) => self.refused(*refusal),
         }
-        Err(refusal) => write_refusal(out, *refusal),
+        self.put("\n");
     }
-}
 
-/// The line of an edit.
-fn write_edit(
-    out: &mut String,
-    fs: Fs,
-    block: u32,
-    edit: &Edit,
-    answer: &Result<EditId, Refusal>,
-) -> Result<(), AllocError> {
-    let fs = fs.number();
-    write!(out, "  edit {fs} {block}")?;
-    if let Some(after) = edit.after() {
-        let number = after.number();
-        write!(out, " @{number}")?;
+    /// The line of an edit.
+    fn edit_line(&mut self, fs: Fs, block: u32, edit: &Edit, answer: &Result<EditId, Refusal>) {
+        self.number("  edit ", u32::from(fs.number()));
+        self.number(" ", block);
+        if let Some(after) = edit.after() {
+            self.size(" @", after.number());
+        }
+        for patch in edit.patches.iter() {
+            self.number(" ", u32::from(patch.offset));
+            self.put("=");
+            self.bytes(&patch.bytes);
+        }
+        for (added, ty) in edit.adds() {
+            self.number(" +", *added);
+            self.number(":", *ty);
+        }
+        for dropped in edit.drops() {
+            self.number(" -", *dropped);
+        }
+        self.end_line(answer);
     }
-    for patch in edit.patches.iter() {
-        let offset = patch.offset;
-        write!(out, " {offset}=")?;
-        write_bytes(out, &patch.bytes)?;
-    }
-    for (added, ty) in edit.adds() {
-        write!(out, " +{added}:{ty}")?;
-    }
-    for dropped in edit.drops() {
-        write!(out, " -{dropped}")?;
-    }
-    write_answer(out, *answer)
-}
 
-/// The line of a block that becomes the root.
-fn write_root(
-    out: &mut String,
-    fs: Fs,
-    block: u32,
-    answer: &Result<EditId, Refusal>,
-) -> Result<(), AllocError> {
-    let fs = fs.number();
-    write!(out, "  root {fs} {block}")?;
-    write_answer(out, *answer)
-}
+    /// The line of a block that becomes the root.
+    fn root_line(&mut self, fs: Fs, block: u32, answer: &Result<EditId, Refusal>) {
+        self.number("  root ", u32::from(fs.number()));
+        self.number(" ", block);
+        self.end_line(answer);
+    }
 
-/// The line of a block that is forgotten.
-fn write_forget(
-    out: &mut String,
-    fs: Fs,
-    block: u32,
-    answer: Result<(), Refusal>,
-) -> Result<(), AllocError> {
-    let fs = fs.number();
-    write!(out, "  forget {fs} {block}")?;
-    match answer {
-        Ok(()) => writeln!(out, " > ok"),
-        Err(refusal) => write_refusal(out, refusal),
+    /// The line of a block that is forgotten.
+    fn forget_line(&mut self, fs: Fs, block: u32, answer: Result<(), Refusal>) {
+        self.number("  forget ", u32::from(fs.number()));
+        self.number(" ", block);
+        match answer {
+            Ok(()) => self.put(" > ok"),
+            Err(refusal) => self.refused(refusal),
+        }
+        self.put("\n");
     }
 }
 
@@ -179,25 +172,25 @@ impl<S: Store> Store for Recorder<S> {
 
     fn init(&mut self, fs: Fs, ty: u32, bytes: &[u8; 512]) -> Result<(u32, EditId), Refusal> {
         let made = self.store.init(fs, ty, bytes);
-        let _noted = write_init(&mut self.lines, fs, ty, bytes, &made);
+        self.lines.init_line(fs, ty, bytes, &made);
         made
     }
 
     fn propose(&mut self, fs: Fs, block: u32, edit: &Edit) -> Result<EditId, Refusal> {
         let made = self.store.propose(fs, block, edit);
-        let _noted = write_edit(&mut self.lines, fs, block, edit, &made);
+        self.lines.edit_line(fs, block, edit, &made);
         made
     }
 
     fn make_root(&mut self, fs: Fs, block: u32) -> Result<EditId, Refusal> {
         let made = self.store.make_root(fs, block);
-        let _noted = write_root(&mut self.lines, fs, block, &made);
+        self.lines.root_line(fs, block, &made);
         made
     }
 
     fn forget(&mut self, fs: Fs, block: u32) -> Result<(), Refusal> {
         let done = self.store.forget(fs, block);
-        let _noted = write_forget(&mut self.lines, fs, block, done);
+        self.lines.forget_line(fs, block, done);
         done
     }
 

@@ -1,101 +1,105 @@
 // What calls answer, as a transcript writes it.
 
-use crate::text::write_name;
-use crate::volumes::Made;
-use std::alloc::{AllocError, Global};
-use std::fmt::Write;
+use crate::text::Text;
+use treefs::Volume;
+use treefs_edits::Times;
 use treefs_edits::memory::touched_times;
-use treefs_edits::{Memory, Times};
 use treefs_format::Records;
 use treefs_lookup::{Found, Sought, find_directory, next_bucket};
 use treefs_model::Fault;
+use xn_state::Store;
 
-/// A fault, by its name.
-pub fn write_fault(out: &mut String, fault: Fault) -> Result<(), AllocError> {
-    match fault {
-        Fault::Kernel(refusal) => write!(out, "Kernel {refusal}"),
-        other => write!(out, "{other:?}"),
-    }
-}
-
-/// A number, or a fault.
-pub fn write_number(out: &mut String, answered: Result<u32, Fault>) -> Result<(), AllocError> {
-    match answered {
-        Ok(number) => write!(out, "{number}"),
-        Err(fault) => write_fault(out, fault),
-    }
-}
-
-/// What an inode says, with the times that no edit has written yet.
-pub fn write_found(
-    out: &mut String,
-    memory: &Memory,
-    number: u32,
-    found: Result<Found, Fault>,
-) -> Result<(), AllocError> {
-    match found {
-        Ok(found) => {
-            let fields = found.fields;
-            let stored = Times {
-                mtime: fields.mtime,
-                ctime: fields.ctime,
-            };
-            let times = touched_times(&memory.touched, number, stored);
-            let (mode, links, uid, gid) = (fields.mode, fields.links, fields.uid, fields.gid);
-            let (size, mtime, ctime) = (fields.size, times.mtime, times.ctime);
-            let parent = fields.parent;
-            write!(
-                out,
-                "mode {mode:o} links {links} uid {uid} gid {gid} size {size} "
-            )?;
-            write!(out, "mtime {mtime} ctime {ctime} parent {parent}")
+impl Text {
+    /// That a call was done, or its fault.
+    pub fn done(&mut self, answer: Result<(), Fault>) {
+        match answer {
+            Ok(()) => self.put("ok"),
+            Err(fault) => self.fault(fault),
         }
-        Err(fault) => write_fault(out, fault),
     }
-}
 
-/// The names of a directory, bucket after bucket, with their numbers; `-` for none.
-pub fn write_listing(
-    alloc: Global,
-    out: &mut String,
-    made: &Made,
-    number: u32,
-) -> Result<(), AllocError> {
-    let tree = made.volume.tree;
-    let directory = match find_directory(&made.store, tree.fs, tree.top, number) {
-        Ok(directory) => directory,
-        Err(fault) => return write_fault(out, fault),
-    };
-    let mut listed = String::new(alloc);
-    let mut from = 0u32;
-    for _bucket in 0..1_000_000u32 {
-        let Some(bucket) = next_bucket(&made.store, tree.fs, directory.block, Sought::Live, from)
-        else {
-            break;
+    /// The number that a call answers, or its fault.
+    pub fn answer(&mut self, answer: Result<u32, Fault>) {
+        match answer {
+            Ok(number) => self.number("", number),
+            Err(fault) => self.fault(fault),
+        }
+    }
+
+    /// How many bytes a call wrote, or its fault.
+    pub fn written(&mut self, answer: Result<usize, Fault>) {
+        match answer {
+            Ok(count) => self.size("", count as u64),
+            Err(fault) => self.fault(fault),
+        }
+    }
+
+    /// The first of these bytes, as many as a call read, or its fault.
+    pub fn read(&mut self, bytes: &[u8], answer: Result<usize, Fault>) {
+        match answer {
+            Ok(count) => self.bytes(bytes.get(..count).unwrap_or(&[])),
+            Err(fault) => self.fault(fault),
+        }
+    }
+
+    /// What an inode says, with these times, or the fault of a call that looked for it.
+    pub fn found(&mut self, times: Times, found: Found) {
+        let fields = found.fields;
+        self.mode("mode ", fields.mode);
+        self.number(" links ", fields.links);
+        self.number(" uid ", fields.uid);
+        self.number(" gid ", fields.gid);
+        self.size(" size ", fields.size);
+        self.time(" mtime ", times.mtime);
+        self.time(" ctime ", times.ctime);
+        self.number(" parent ", fields.parent);
+    }
+
+    /// The names of a directory, bucket after bucket, with their numbers; `-` for none.
+    pub fn listing<S: Store>(&mut self, store: &S, volume: &Volume, number: u32) {
+        let tree = volume.tree;
+        let directory = match find_directory(store, tree.fs, tree.top, number) {
+            Ok(directory) => directory,
+            Err(fault) => return self.fault(fault),
         };
-        write_records(&mut listed, bucket.bytes)?;
-        from = bucket.number.saturating_add(1);
-    }
-    if listed.is_empty() {
-        listed.push_str("-")?;
-    }
-    out.push_str(listed.as_str())
-}
-
-/// The live records of a bucket, each behind a blank where it isn't the first.
-fn write_records(out: &mut String, bucket: &[u8]) -> Result<(), AllocError> {
-    if bucket.len() > 512 {
-        return Ok(());
-    }
-    for record in Records::new(bucket) {
-        if record.number != 0 {
-            if !out.is_empty() {
-                out.push_str(" ")?;
-            }
-            write_name(out, record.name)?;
-            let number = record.number;
-            write!(out, ":{number}")?;
+        let mut from = 0u32;
+        let mut is_first = true;
+        for _bucket in 0..1_000_000u32 {
+            let Some(bucket) = next_bucket(store, tree.fs, directory.block, Sought::Live, from)
+            else {
+                break;
+            };
+            is_first = self.records(bucket.bytes, is_first);
+            from = bucket.number.saturating_add(1);
+        }
+        if is_first {
+            self.put("-");
         }
     }
-    Ok(())
+
+    /// The live records of a bucket, each behind a blank where it isn't the first. Answers whether the next one is.
+    fn records(&mut self, bucket: &[u8], is_first: bool) -> bool {
+        let mut is_first = is_first;
+        if bucket.len() > 512 {
+            return is_first;
+        }
+        for record in Records::new(bucket) {
+            if record.number != 0 {
+                self.put(if is_first { "" } else { " " });
+                self.name(record.name);
+                self.number(":", record.number);
+                is_first = false;
+            }
+        }
+        is_first
+    }
+}
+
+/// The times of an inode, also where no edit has written them yet.
+pub fn times_of(volume: &Volume, number: u32, found: &Found) -> Times {
+    let stored = Times {
+        mtime: found.fields.mtime,
+        ctime: found.fields.ctime,
+    };
+    touched_times(&volume.memory.touched, number, stored)
 }

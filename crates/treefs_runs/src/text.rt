@@ -1,142 +1,163 @@
-// Bytes and names as a transcript writes them.
-
-ghost use Rattle.std.specs.Prelude.{◌<◌, IfSome};
+// Text that a transcript has, with bytes and names as it writes them.
 
 use std::alloc::{AllocError, Global};
 use std::fmt::Write;
+use treefs_model::Fault;
+use xn_model::Refusal;
 
 /// From how many equal bytes on they are written once, with their count.
 const SHORTEST_RUN: usize = 8;
 
-/// Writes bytes as pairs of digits; `-` for none, and `HH*N` for a run.
-pub fn write_bytes(out: &mut String, bytes: &[u8]) -> Result<(), AllocError> {
-    if bytes.is_empty() {
-        return out.push_str("-");
-    }
-    let mut rest = bytes;
-    let mut is_first = true;
-    let mut is_behind_run = false;
-    for _part in 0..bytes.len() {
-        let Some(byte) = rest.first().copied() else {
-            break;
-        };
-        let run = run_length(rest);
-        let is_run = run >= SHORTEST_RUN;
-        if !is_first && (is_run || is_behind_run) {
-            out.push_str("+")?;
-        }
-        if is_run {
-            write!(out, "{byte:02x}*{run}")?;
-        } else {
-            write!(out, "{byte:02x}")?;
-        }
-        rest = rest.get(if is_run { run } else { 1 }..).unwrap_or(&[]);
-        is_first = false;
-        is_behind_run = is_run;
-    }
-    Ok(())
+/// Text that grows. Once a growth was refused nothing more is added, and in the end there is none.
+#[derive(Drop)]
+pub struct Text {
+    text: String,
+    is_cut: bool,
 }
 
-/// How many of the first bytes are equal.
-fn run_length(bytes: &[u8]) -> usize {
-    match bytes.first() {
-        Some(first) => bytes
-            .iter()
-            .position(|byte| byte != first)
-            .unwrap_or(bytes.len()),
-        None => 0,
+impl Text {
+    /// No text yet.
+    pub fn new(alloc: Global) -> Text {
+        Text {
+            text: String::new(alloc),
+            is_cut: false,
+        }
     }
+
+    /// All that was added. `AllocError` where a growth was refused.
+    pub fn finished(self) -> Result<String, AllocError> {
+        let Text { text, is_cut } = self;
+        if is_cut { Err(AllocError) } else { Ok(text) }
+    }
+
+    /// Takes the text, and leaves none.
+    pub fn take(&mut self, alloc: Global) -> Text {
+        std::mem::replace(self, Text::new(alloc))
+    }
+
+    /// Whether nothing was added.
+    pub fn is_empty(&self) -> bool {
+        self.text.is_empty()
+    }
+
+    /// Adds a part.
+    pub fn put(&mut self, part: &str) {
+        self.is_cut = self.is_cut || self.text.push_str(part).is_err();
+    }
+
+    /// Adds all of another text.
+    pub fn put_all(&mut self, other: &Text) {
+        self.put(other.text.as_str());
+        self.is_cut = self.is_cut || other.is_cut;
+    }
+
+    /// Adds a part, and a number behind it.
+    pub fn number(&mut self, part: &str, number: u32) {
+        self.size(part, u64::from(number));
+    }
+
+    /// Adds a part, and a size behind it.
+    pub fn size(&mut self, part: &str, size: u64) {
+        self.put(part);
+        self.is_cut = self.is_cut || write!(self.text, "{size}").is_err();
+    }
+
+    /// Adds a part, and a time behind it.
+    pub fn time(&mut self, part: &str, time: i64) {
+        self.put(part);
+        self.is_cut = self.is_cut || write!(self.text, "{time}").is_err();
+    }
+
+    /// Adds a part, and a mode behind it.
+    pub fn mode(&mut self, part: &str, mode: u16) {
+        self.put(part);
+        self.is_cut = self.is_cut || write!(self.text, "{mode:o}").is_err();
+    }
+
+    /// Adds a refusal.
+    pub fn refusal(&mut self, refusal: Refusal) {
+        self.is_cut = self.is_cut || write!(self.text, "{refusal}").is_err();
+    }
+
+    /// Adds a fault, by its name.
+    pub fn fault(&mut self, fault: Fault) {
+        match fault {
+            Fault::Kernel(refusal) => {
+                self.put("Kernel ");
+                self.refusal(refusal);
+            }
+            other => self.is_cut = self.is_cut || write!(self.text, "{other:?}").is_err(),
+        }
+    }
+
+    /// Adds a byte as a pair of digits.
+    fn byte(&mut self, byte: u8) {
+        self.is_cut = self.is_cut || write!(self.text, "{byte:02x}").is_err();
+    }
+
+    /// Adds bytes as pairs of digits; `-` for none, and `HH*N` for a run.
+    pub fn bytes(&mut self, bytes: &[u8]) {
+        if bytes.is_empty() {
+            self.put("-");
+        }
+        let mut rest = bytes;
+        let mut before_run = "";
+        let mut before_byte = "";
+        for _part in 0..bytes.len() {
+            let Some(byte) = rest.first().copied() else {
+                return;
+            };
+            let run = run_length(rest, byte);
+            if run < SHORTEST_RUN {
+                self.put(before_byte);
+                self.byte(byte);
+                rest = rest.get(1..).unwrap_or(&[]);
+                before_byte = "";
+            } else {
+                self.put(before_run);
+                self.byte(byte);
+                self.size("*", run as u64);
+                rest = rest.get(run..).unwrap_or(&[]);
+                before_byte = "+";
+            }
+            before_run = "+";
+        }
+    }
+
+    /// Adds a name: letters, digits and `-_.~` as they are, any other byte as `%XX`.
+    pub fn name(&mut self, name: &[u8]) {
+        for byte in name {
+            let byte = *byte;
+            let is_plain = byte.is_ascii_alphanumeric() || b"-_.~".contains(&byte);
+            self.is_cut = self.is_cut
+                || if is_plain {
+                    self.text.push(char::from(byte)).is_err()
+                } else {
+                    write!(self.text, "%{byte:02X}").is_err()
+                };
+        }
+    }
+}
+
+/// How many of the first bytes are this one.
+fn run_length(bytes: &[u8], first: u8) -> usize {
+    let mut run = 0usize;
+    for byte in bytes {
+        if *byte != first {
+            return run;
+        }
+        run = run.saturating_add(1);
+    }
+    run
 }
 
 /// The bytes without the zeros behind them.
 pub fn without_end(bytes: &[u8]) -> &[u8] {
-    let end = bytes
-        .iter()
-        .rposition(|byte| *byte != 0)
-        .map_or(0, |last| last + 1);
+    let mut end = 0usize;
+    for (at, byte) in bytes.iter().enumerate() {
+        if *byte != 0 {
+            end = at.saturating_add(1);
+        }
+    }
     bytes.get(..end).unwrap_or(bytes)
-}
-
-/// The bytes that a word says, or `None` where it says none.
-pub fn parse_bytes(alloc: Global, word: &str) -> Result<Option<Vec<u8>>, AllocError> {
-    let mut bytes = Vec::new(alloc);
-    if word == "-" {
-        return Ok(Some(bytes));
-    }
-    for part in word.split('+') {
-        let (digits, count) = match part.split_once('*') {
-            Some((digits, count)) => (digits, count.parse::<usize>().ok()),
-            None => (part, Some(1)),
-        };
-        let Some(count) = count else {
-            return Ok(None);
-        };
-        if !append_digits(&mut bytes, digits.as_bytes(), count)? {
-            return Ok(None);
-        }
-    }
-    Ok(Some(bytes))
-}
-
-/// Appends the bytes of pairs of digits, so many times, and answers whether they are such pairs.
-fn append_digits(bytes: &mut Vec<u8>, digits: &[u8], count: usize) -> Result<bool, AllocError> {
-    for _time in 0..count {
-        for pair in digits.chunks(2) {
-            let Some(byte) = byte_of(pair) else {
-                return Ok(false);
-            };
-            bytes.push(byte)?;
-        }
-    }
-    Ok(true)
-}
-
-/// The byte of two digits.
-fn byte_of(pair: &[u8]) -> Option<u8> {
-    match pair {
-        [high, low] => Some(16 * digit(*high)? + digit(*low)?),
-        _ => None,
-    }
-}
-
-/// The number of a digit in base 16.
-fn digit(byte: u8) -> Option<u8>
-    ensures { IfSome result (λ digit. digit < 16) }
-{
-    match byte {
-        b'0'..=b'9' => Some(byte - b'0'),
-        b'a'..=b'f' => Some(byte - b'a' + 10),
-        b'A'..=b'F' => Some(byte - b'A' + 10),
-        _ => None,
-    }
-}
-
-/// Writes a name: letters, digits and `-_.~` as they are, any other byte as `%XX`.
-pub fn write_name(out: &mut String, name: &[u8]) -> Result<(), AllocError> {
-    for byte in name {
-        match *byte {
-            b'a'..=b'z' | b'A'..=b'Z' | b'0'..=b'9' | b'-' | b'_' | b'.' | b'~' => {
-                out.push(char::from(*byte))?;
-            }
-            _ => write!(out, "%{byte:02X}")?,
-        }
-    }
-    Ok(())
-}
-
-/// The name that a word says, or `None` where it says none.
-pub fn parse_name(alloc: Global, word: &str) -> Result<Option<Vec<u8>>, AllocError> {
-    let mut name = Vec::new(alloc);
-    for (at, part) in word.as_bytes().split(|byte| *byte == b'%').enumerate() {
-        if at == 0 {
-            name.extend_from_slice(part)?;
-            continue;
-        }
-        let Some(byte) = part.get(..2).and_then(byte_of) else {
-            return Ok(None);
-        };
-        name.push(byte)?;
-        name.extend_from_slice(part.get(2..).unwrap_or(&[]))?;
-    }
-    Ok(Some(name))
 }

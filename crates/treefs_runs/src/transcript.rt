@@ -1,12 +1,12 @@
 // Transcripts of calls: behind each line that is a call stand the lines that it prints.
 
 use crate::calls::Player;
-use std::alloc::{AllocError, AllocFailed, Global};
+use std::alloc::{AllocError, Global};
 use std::thread::Threads;
 use thiserror::Error;
 
 /// How much of a transcript was as written.
-#[derive(Clone, Copy, Debug)]
+#[derive(Clone, Copy)]
 pub struct Played {
     pub calls: usize,
     pub lines: usize,
@@ -38,24 +38,36 @@ impl From<AllocError> for PlayFault {
     }
 }
 
-impl<T: Drop> From<AllocFailed<T>> for PlayFault {
-    fn from(_: AllocFailed<T>) -> PlayFault {
-        PlayFault::NoMemory
+/// How many lines a call printed, each as it is written from that line on, of lines that are counted from 0.
+fn compared(alloc: Global, lines: &[&str], from: usize, printed: &str) -> Result<usize, PlayFault> {
+    let mut at = from;
+    for one in printed.lines() {
+        let written = lines.get(at).copied();
+        at = at.saturating_add(1);
+        if written != Some(one) {
+            return Err(PlayFault::Differs {
+                line: at,
+                written: String::from_str(alloc, written.unwrap_or(""))?,
+                printed: String::from_str(alloc, one)?,
+            });
+        }
     }
+    Ok(at.saturating_sub(from))
 }
 
-/// The difference at a line.
-fn differs(
+/// Plays the call at a line, and answers how many lines behind it are as written.
+fn play_call(
+    rt: &(impl Threads + Sync),
     alloc: Global,
-    line: usize,
-    written: Option<&str>,
-    printed: &str,
-) -> Result<PlayFault, AllocError> {
-    Ok(PlayFault::Differs {
-        line,
-        written: String::from_str(alloc, written.unwrap_or(""))?,
-        printed: String::from_str(alloc, printed)?,
-    })
+    player: &mut Player,
+    lines: &[&str],
+    at: usize,
+) -> Result<usize, PlayFault> {
+    let line = at.saturating_add(1);
+    match player.call(rt, lines.get(at).copied().unwrap_or(""))? {
+        Some(printed) => compared(alloc, lines, line, printed.as_str()),
+        None => Err(PlayFault::NoCall { line }),
+    }
 }
 
 /// Plays a transcript, and answers how many calls and lines were as written.
@@ -67,26 +79,14 @@ pub fn play(
     let lines: Vec<&str> = transcript.lines().collect(alloc)?;
     let mut player = Player::new(alloc);
     let mut played = Played { calls: 0, lines: 0 };
-    let mut skipped = 0usize;
-    for (at, line) in lines.iter().enumerate() {
-        if skipped > 0 {
-            skipped -= 1;
-            continue;
+    let mut next = 0usize;
+    for at in 0..lines.len() {
+        if at == next {
+            let behind = play_call(rt, alloc, &mut player, &lines, at)?;
+            next = at.saturating_add(behind).saturating_add(1);
+            played.calls = played.calls.saturating_add(1);
+            played.lines = played.lines.saturating_add(behind);
         }
-        let line_number = at.saturating_add(1);
-        let Some(printed) = player.call(rt, line)? else {
-            return Err(PlayFault::NoCall { line: line_number });
-        };
-        for (behind, one) in printed.as_str().lines().enumerate() {
-            let there = line_number.saturating_add(behind);
-            let written = lines.get(there).copied();
-            if written != Some(one) {
-                return Err(differs(alloc, there.saturating_add(1), written, one)?);
-            }
-            skipped = skipped.saturating_add(1);
-        }
-        played.calls = played.calls.saturating_add(1);
-        played.lines = played.lines.saturating_add(skipped);
     }
     Ok(played)
 }

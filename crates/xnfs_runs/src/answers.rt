@@ -9,7 +9,7 @@ use std::io;
 use std::io::Write;
 
 /// Of which path a fault is told.
-#[derive(Clone, Copy, Debug, PartialEq, Eq)]
+#[derive(Clone, Copy)]
 pub enum Of {
     Path,
     To,
@@ -133,27 +133,31 @@ fn rename(tree: &mut Tree, line: &Line) -> Step {
         Err(why) => return Ok(Err((Of::Path, why))),
     };
     let goal = goal(tree, &line.to, line.path.last().copied())?;
-    let onto = match tree.at(&goal) {
-        Ok(onto) => onto,
-        Err(why) => return Ok(Err((Of::To, why))),
-    };
+    match tree.at(&goal) {
+        Ok(onto) => rename_to(tree, &line.path, &goal, kind, onto),
+        Err(why) => Ok(Err((Of::To, why))),
+    }
+}
+
+/// Gives what is at a path another one, where that may be there.
+fn rename_to(tree: &mut Tree, path: &Path, goal: &Path, kind: Kind, onto: Option<Kind>) -> Step {
+    let is_there = goal.as_slice() == path.as_slice();
     match (kind, onto) {
+        (Kind::File(_), Some(Kind::File(_))) if is_there => {}
         (Kind::File(_), Some(Kind::File(_))) => {
-            if goal.as_slice() != line.path.as_slice() {
-                tree.remove(&line.path);
-                tree.set(&goal, kind)?;
-            }
-            Ok(Ok(()))
+            tree.remove(path);
+            tree.set(goal, kind)?;
         }
-        (_, Some(_)) => Ok(Err((Of::To, Why::There))),
-        (Kind::Folder { .. }, None) if above(&goal)?.as_slice() != above(&line.path)?.as_slice() =>
-            { Ok(Err((Of::Path, Why::Stays))) }
+        (_, Some(_)) => return Ok(Err((Of::To, Why::There))),
+        (Kind::Folder { .. }, None) if above(goal) != above(path) => {
+            return Ok(Err((Of::Path, Why::Stays)));
+        }
         _ => {
-            tree.give_block(&above(&goal)?);
-            tree.rename(&line.path, &goal)?;
-            Ok(Ok(()))
+            tree.give_block(above(goal));
+            tree.rename(path, goal)?;
         }
     }
+    Ok(Ok(()))
 }
 
 /// Puts the bytes of a source at a place; where it is told at `of`.
@@ -247,14 +251,26 @@ fn print_below(
         let Some((path, kind)) = waiting.pop() else {
             break;
         };
-        for _ in folder.len()..path.len().saturating_sub(1) {
-            write!(out, "  ")?;
-        }
-        let last = path.last().copied().unwrap_or(0);
-        print_entry(name(last), kind, false, sources, out)?;
+        let depth = path.len().saturating_sub(folder.len());
+        print_indented(depth, &path, kind, sources, out)?;
         push_children(alloc, tree, &path, &mut waiting)?;
     }
     Ok(())
+}
+
+/// Prints what is so deep below a folder.
+fn print_indented(
+    depth: usize,
+    path: &Path,
+    kind: Kind,
+    sources: &Sources,
+    out: &mut Vec<u8>,
+) -> io::Result<()> {
+    for _ in 1..depth {
+        write!(out, "  ")?;
+    }
+    let last = path.last().copied().unwrap_or(0);
+    print_entry(name(last), kind, false, sources, out)
 }
 
 /// Puts what stands in a folder behind what waits, the last one first.
@@ -294,6 +310,29 @@ fn look(
     Ok(Ok(()))
 }
 
+/// What a line does to the tree.
+fn change(alloc: Global, tree: &mut Tree, line: &Line) -> Step {
+    match line.word {
+        Word::MakeFolder => make_folder(tree, line),
+        Word::MakeFolders => make_folders(alloc, tree, line),
+        Word::Remove => Ok(remove(tree, line, false)),
+        Word::RemoveAll => Ok(remove(tree, line, true)),
+        Word::RemoveFolder => Ok(remove_folder(tree, line)),
+        Word::Move => rename(tree, line),
+        Word::Copy => copy(tree, line),
+        Word::Put => put(tree, line),
+        Word::PutInput => Ok(Err((Of::Input, Why::Lines))),
+        _ => Ok(Ok(())),
+    }
+}
+
+/// What `check` prints, or the beginning of it.
+fn print_counts(tree: &Tree, out: &mut Vec<u8>) -> io::Result<Result<(), Fault>> {
+    let (files, folders) = tree.counts();
+    write!(out, "sound: {files} files, {folders} folders, ")?;
+    Ok(Ok(()))
+}
+
 /// What a line prints and does.
 fn step(
     alloc: Global,
@@ -302,25 +341,12 @@ fn step(
     sources: &Sources,
     out: &mut Vec<u8>,
 ) -> io::Result<Result<(), Fault>> {
-    Ok(match line.word {
-        Word::MakeFolder => make_folder(tree, line)?,
-        Word::MakeFolders => make_folders(alloc, tree, line)?,
-        Word::Remove => remove(tree, line, false),
-        Word::RemoveAll => remove(tree, line, true),
-        Word::RemoveFolder => remove_folder(tree, line),
-        Word::Move => rename(tree, line)?,
-        Word::Copy => copy(tree, line)?,
-        Word::Put => put(tree, line)?,
-        Word::PutInput => Err((Of::Input, Why::Lines)),
-        Word::List | Word::ListLong => list(alloc, tree, line, sources, out)?,
-        Word::Cat | Word::Tree => look(alloc, tree, line, sources, out)?,
-        Word::Check => {
-            let (files, folders) = tree.counts();
-            write!(out, "sound: {files} files, {folders} folders, ")?;
-            Ok(())
-        }
-        Word::Sync | Word::Comment => Ok(()),
-    })
+    match line.word {
+        Word::List | Word::ListLong => list(alloc, tree, line, sources, out),
+        Word::Cat | Word::Tree => look(alloc, tree, line, sources, out),
+        Word::Check => print_counts(tree, out),
+        _ => Ok(change(alloc, tree, line)?),
+    }
 }
 
 /// What a line answers, and what it does to the tree.

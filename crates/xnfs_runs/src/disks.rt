@@ -9,7 +9,7 @@ use std::thread::Threads;
 use templates::format_image;
 use xn_kernel::Kernel;
 use xnfs_line::Opened;
-use xnfs_session::{Fs, Session};
+use xnfs_session::{FlushStore, Fs, Session};
 
 /// A volume that is open on a disk in memory.
 pub type MemVolume = Opened<Kernel<MemLane>>;
@@ -61,20 +61,41 @@ fn mounted(
 }
 
 /// What is known of a volume that was just opened.
-fn opened(alloc: Global, session: Session<Kernel<MemLane>>) -> io::Result<MemVolume> {
+fn opened<S: FlushStore + Drop>(alloc: Global, session: Session<S>) -> io::Result<Opened<S>> {
     match Opened::new(alloc, session) {
         Ok(volume) => Ok(volume),
         Err(_) => Err(no_disk()),
     }
 }
 
-/// The volume of file system 0 on a fresh disk.
-pub fn fresh(threads: &(impl Threads + Sync), alloc: Global) -> io::Result<MemVolume> {
-    let kernel = mounted(threads, alloc, fresh_lanes(alloc)?)?;
-    match Session::make(alloc, kernel, file_system()?) {
+/// A new volume of file system 0 on a store.
+fn made_on<S: FlushStore + Drop>(alloc: Global, store: S) -> io::Result<Opened<S>> {
+    match Session::make(alloc, store, file_system()?) {
         Ok(session) => opened(alloc, session),
         Err(_) => Err(no_disk()),
     }
+}
+
+/// The volume of file system 0 on a store that has one.
+fn opened_on<S: FlushStore + Drop>(alloc: Global, store: S) -> io::Result<Opened<S>> {
+    match Session::open(alloc, store, file_system()?) {
+        Ok(session) => opened(alloc, session),
+        Err(_) => Err(no_disk()),
+    }
+}
+
+/// The store of a volume, once all is written.
+fn flushed<S: FlushStore + Drop>(alloc: Global, volume: Opened<S>) -> io::Result<S> {
+    let mut session = volume.into_session();
+    if session.flush(alloc).is_err() {
+        return Err(no_disk());
+    }
+    Ok(session.into_store())
+}
+
+/// The volume of file system 0 on a fresh disk.
+pub fn fresh(threads: &(impl Threads + Sync), alloc: Global) -> io::Result<MemVolume> {
+    made_on(alloc, mounted(threads, alloc, fresh_lanes(alloc)?)?)
 }
 
 /// The volume on the same disk, once all is written and the disk is mounted anew.
@@ -83,13 +104,6 @@ pub fn mounted_anew(
     alloc: Global,
     volume: MemVolume,
 ) -> io::Result<MemVolume> {
-    let mut session = volume.into_session();
-    if session.flush(alloc).is_err() {
-        return Err(no_disk());
-    }
-    let kernel = mounted(threads, alloc, session.into_store().into_lanes())?;
-    match Session::open(alloc, kernel, file_system()?) {
-        Ok(session) => opened(alloc, session),
-        Err(_) => Err(no_disk()),
-    }
+    let lanes = flushed(alloc, volume)?.into_lanes();
+    opened_on(alloc, mounted(threads, alloc, lanes)?)
 }

@@ -1,6 +1,6 @@
 // Pseudo-random lines.
 
-use crate::names::{GOOD_NAMES, OWN_NAMES, Path, name, quoted, source_name, written};
+use crate::names::{GOOD_NAMES, OWN_NAMES, Path, add_quoted, name, source_name, written};
 use crate::sources::SOURCES;
 use crate::tree::{Kind, Tree};
 use pseudo_random::Numbers;
@@ -10,7 +10,7 @@ use std::alloc::{AllocError, Global};
 const MOST_DEPTH: usize = 4;
 
 /// What a line does.
-#[derive(Clone, Copy, Debug, PartialEq, Eq)]
+#[derive(Clone, Copy, PartialEq, Eq)]
 pub enum Word {
     MakeFolder,
     MakeFolders,
@@ -78,7 +78,7 @@ pub struct Line {
 }
 
 /// What a path leads to, mostly.
-#[derive(Clone, Copy, Debug, PartialEq, Eq)]
+#[derive(Clone, Copy, PartialEq, Eq)]
 enum Wish {
     /// A name that a folder may not have yet.
     New,
@@ -185,26 +185,59 @@ impl Line {
 
     /// How it is written.
     pub fn text(&self, alloc: Global) -> Result<String, AllocError> {
-        let path = quoted(alloc, &self.path_text)?;
-        let to = quoted(alloc, &self.to_text)?;
-        let source = name(source_name(self.source));
-        match self.word {
-            Word::MakeFolder => format!(in alloc; "mkdir {path}"),
-            Word::MakeFolders => format!(in alloc; "mkdir -p {path}"),
-            Word::Remove => format!(in alloc; "rm {path}"),
-            Word::RemoveAll => format!(in alloc; "rm -r {path}"),
-            Word::RemoveFolder => format!(in alloc; "rmdir {path}"),
-            Word::Move => format!(in alloc; "mv {path} {to}"),
-            Word::Copy => format!(in alloc; "cp {path} {to}"),
-            Word::Put => format!(in alloc; "put {source} {path}"),
-            Word::PutInput => format!(in alloc; "put - {path}"),
-            Word::Cat => format!(in alloc; "cat {path}"),
-            Word::List => format!(in alloc; "ls {path}"),
-            Word::ListLong => format!(in alloc; "ls -l {path}"),
-            Word::Tree => format!(in alloc; "tree {path}"),
-            Word::Check => String::from_str(alloc, "check"),
-            Word::Sync => String::from_str(alloc, "sync"),
-            Word::Comment => format!(in alloc; "  # {path}"),
+        let mut text = String::new(alloc);
+        self.write(&mut text)?;
+        Ok(text)
+    }
+
+    /// Writes it behind a text.
+    pub fn write(&self, text: &mut String) -> Result<(), AllocError> {
+        let (word, behind) = form_of(self.word);
+        text.push_str(word)?;
+        match behind {
+            Behind::Nothing => Ok(()),
+            Behind::Path => add_quoted(text, &self.path_text),
+            Behind::PathAndTo => {
+                add_quoted(text, &self.path_text)?;
+                text.push(' ')?;
+                add_quoted(text, &self.to_text)
+            }
+            Behind::SourceAndPath => {
+                text.push_str(name(source_name(self.source)))?;
+                text.push(' ')?;
+                add_quoted(text, &self.path_text)
+            }
         }
+    }
+}
+
+/// What stands behind a word.
+#[derive(Clone, Copy)]
+enum Behind {
+    Nothing,
+    Path,
+    PathAndTo,
+    SourceAndPath,
+}
+
+/// How a word is written, and what stands behind it.
+fn form_of(word: Word) -> (&'static str, Behind) {
+    match word {
+        Word::MakeFolder => ("mkdir ", Behind::Path),
+        Word::MakeFolders => ("mkdir -p ", Behind::Path),
+        Word::Remove => ("rm ", Behind::Path),
+        Word::RemoveAll => ("rm -r ", Behind::Path),
+        Word::RemoveFolder => ("rmdir ", Behind::Path),
+        Word::Move => ("mv ", Behind::PathAndTo),
+        Word::Copy => ("cp ", Behind::PathAndTo),
+        Word::Put => ("put ", Behind::SourceAndPath),
+        Word::PutInput => ("put - ", Behind::Path),
+        Word::Cat => ("cat ", Behind::Path),
+        Word::List => ("ls ", Behind::Path),
+        Word::ListLong => ("ls -l ", Behind::Path),
+        Word::Tree => ("tree ", Behind::Path),
+        Word::Check => ("check", Behind::Nothing),
+        Word::Sync => ("sync", Behind::Nothing),
+        Word::Comment => ("  # ", Behind::Path),
     }
 }

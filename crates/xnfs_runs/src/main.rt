@@ -11,6 +11,7 @@ mod answers;
 mod disks;
 mod lines;
 mod names;
+mod programs;
 mod run;
 mod scenes;
 mod sources;
@@ -21,6 +22,8 @@ mod tree;
 use run::{play_file, play_memory};
 use scenes::play_scenes;
 use sources::Sources;
+use std::alloc::Global;
+use std::fs::{File, Files};
 use std::process::ExitCode;
 use std::thread::Threads;
 use std::{env, io};
@@ -33,7 +36,42 @@ const LINES: u32 = 20_000;
 /// Of how many lines one goes to the disk in a file.
 const IN_FILE: u32 = 20;
 
-/// Plays transcripts and lines, and answers whether all answers were right. Threads are started by the second handle alone.
+/// Plays so many lines, and answers whether all answers were right.
+fn play_lines<R: Files<File = File> + AllocGlobal + Clone + Drop + Print>(
+    rt: &R,
+    threads: &(impl Threads + Sync),
+    alloc: Global,
+    lines: u32,
+) -> io::Result<bool> {
+    let sources = Sources::write(rt, alloc)?;
+    let mut tally = Tally::new();
+    let in_file = lines / IN_FILE;
+    let in_memory = lines.saturating_sub(in_file);
+    play_memory(rt, threads, alloc, &sources, in_memory, &mut tally)?;
+    play_file(rt, threads, alloc, &sources, in_file, &mut tally)?;
+    println!(rt; "{tally}")?;
+    Ok(tally.wrong == 0)
+}
+
+/// Plays the transcripts of these names, the scenes, and so many lines, and answers whether all answers were right.
+fn play_all<R: Files<File = File> + AllocGlobal + Clone + Drop + Print>(
+    rt: &R,
+    threads: &(impl Threads + Sync),
+    alloc: Global,
+    names: &[String],
+    lines: u32,
+) -> io::Result<bool> {
+    if !names.is_empty() && !play_transcripts(rt, threads, alloc, names)? {
+        return Ok(false);
+    }
+    if let Err(fault) = play_scenes(rt, threads, alloc) {
+        println!(rt; "scenes: {fault}")?;
+        return Ok(false);
+    }
+    play_lines(rt, threads, alloc, lines)
+}
+
+/// Plays what the arguments name, and answers whether all answers were right. Threads are started by the second handle alone.
 fn play(rt: &HostRuntime, threads: &(impl Threads + Sync)) -> io::Result<bool> {
     let alloc = rt.alloc();
     let mut lines = LINES;
@@ -44,27 +82,7 @@ fn play(rt: &HostRuntime, threads: &(impl Threads + Sync)) -> io::Result<bool> {
             Err(_) => names.push(word)?,
         }
     }
-    if !names.is_empty() && !play_transcripts(rt, threads, alloc, &names)? {
-        return Ok(false);
-    }
-    if let Err(fault) = play_scenes(rt, threads, alloc) {
-        println!(rt; "scenes: {fault}")?;
-        return Ok(false);
-    }
-    let sources = Sources::write(rt, alloc)?;
-    let mut tally = Tally::new();
-    let in_file = lines / IN_FILE;
-    play_memory(
-        rt,
-        threads,
-        alloc,
-        &sources,
-        lines.saturating_sub(in_file),
-        &mut tally,
-    )?;
-    play_file(rt, threads, alloc, &sources, in_file, &mut tally)?;
-    println!(rt; "{tally}")?;
-    Ok(tally.wrong == 0)
+    play_all(rt, threads, alloc, &names, lines)
 }
 
 fn main(rt: HostRuntime) -> io::Result<ExitCode> {

@@ -64,10 +64,11 @@ pub fn below(path: &Path, name: u8) -> Result<Path, AllocError> {
 }
 
 /// A path without its last name.
-pub fn above(path: &Path) -> Result<Path, AllocError> {
-    let mut above = path.clone()?;
-    let _ = above.pop();
-    Ok(above)
+pub fn above(path: &[u8]) -> &[u8] {
+    match path {
+        [above @ .., _] => above,
+        [] => path,
+    }
 }
 
 /// How a path is written: in one of a few ways, by a number.
@@ -83,11 +84,10 @@ pub fn written(alloc: Global, path: &Path, way: u16) -> Result<String, AllocErro
     Ok(text)
 }
 
-/// A word of a shell line.
-pub fn quoted(alloc: Global, word: &str) -> Result<String, AllocError> {
-    if word.contains(' ') {
-        format!(in alloc; "'{word}'")
-    } else {
-        String::from_str(alloc, word)
-    }
+/// Adds a word of a shell line.
+pub fn add_quoted(text: &mut String, word: &str) -> Result<(), AllocError> {
+    let quote = if word.contains(' ') { "'" } else { "" };
+    text.push_str(quote)?;
+    text.push_str(word)?;
+    text.push_str(quote)
 }

@@ -3,7 +3,8 @@
 use crate::answers::{Answer, Of, answered};
 use crate::disks::{MemVolume, fresh, mounted_anew};
 use crate::lines::{Line, Word};
-use crate::names::{quoted, written};
+use crate::names::{Path, add_quoted, written};
+use crate::programs::Ran;
 use crate::sources::Sources;
 use crate::tally::Tally;
 use crate::tree::{Kind, Tree};
@@ -59,6 +60,41 @@ fn is_printed(word: Word, wanted: &[u8], out: &[u8]) -> bool {
     out == wanted
 }
 
+/// What a line of a shell printed.
+#[derive(Drop)]
+struct Printed {
+    out: Vec<u8>,
+    err: Vec<u8>,
+}
+
+/// Does what a line of a shell on a disk in memory asks for.
+fn printed_by<R: Files<File = File> + AllocGlobal + Clone + Drop>(
+    rt: &R,
+    volume: &mut MemVolume,
+    alloc: Global,
+    shell: Shell,
+    number: u64,
+    text: &str,
+) -> Printed {
+    let (mut out, mut err) = (Vec::new(alloc), Vec::new(alloc));
+    let _ended = shell_line(rt, volume, alloc, shell, (number, text), &mut out, &mut err);
+    Printed { out, err }
+}
+
+/// Whether a line printed what it is to print.
+fn is_right(
+    alloc: Global,
+    image: &str,
+    number: u64,
+    line: &Line,
+    wanted: &Answer,
+    printed: &Printed,
+) -> io::Result<bool> {
+    let mut told = Vec::new(alloc);
+    add_fault(image, number, line, wanted, &mut told)?;
+    Ok(is_printed(line.word, &wanted.out, &printed.out) && printed.err == told)
+}
+
 /// Plays one line on a disk in memory.
 fn play_line<R: Files<File = File> + AllocGlobal + Clone + Drop + Print>(
     rt: &R,
@@ -71,19 +107,8 @@ fn play_line<R: Files<File = File> + AllocGlobal + Clone + Drop + Print>(
     tally: &mut Tally,
 ) -> io::Result<()> {
     let text = line.text(alloc)?;
-    let (mut out, mut err) = (Vec::new(alloc), Vec::new(alloc));
-    let _ended = shell_line(
-        rt,
-        volume,
-        alloc,
-        shell,
-        (number, &text),
-        &mut out,
-        &mut err,
-    );
-    let mut told = Vec::new(alloc);
-    add_fault(shell.image, number, line, wanted, &mut told)?;
-    let is_right = is_printed(line.word, &wanted.out, &out) && err == told;
+    let printed = printed_by(rt, volume, alloc, shell, number, &text);
+    let is_right = is_right(alloc, shell.image, number, line, wanted, &printed)?;
     if !is_right {
         println!(rt; "wrong: line {number}: {text}")?;
     }
@@ -91,11 +116,35 @@ fn play_line<R: Files<File = File> + AllocGlobal + Clone + Drop + Print>(
     Ok(())
 }
 
-/// The line that prints a file or all names.
-fn look_line(alloc: Global, word: &str, path: &[u8]) -> Result<String, AllocError> {
-    let path = Vec::from_slice(alloc, path)?;
-    let path = quoted(alloc, &written(alloc, &path, 0)?)?;
-    format!(in alloc; "{word} {path}")
+/// The line that prints a file.
+fn cat_line(alloc: Global, path: &Path) -> Result<String, AllocError> {
+    let path = written(alloc, path, 0)?;
+    let mut text = String::new(alloc);
+    add_word(&mut text, "cat ", &path)?;
+    Ok(text)
+}
+
+/// Adds a word, and a path behind it.
+fn add_word(text: &mut String, word: &str, path: &str) -> Result<(), AllocError> {
+    text.push_str(word)?;
+    add_quoted(text, path)
+}
+
+/// Whether a file on a disk in memory has these bytes.
+fn has_bytes<R: Files<File = File> + AllocGlobal + Clone + Drop>(
+    rt: &R,
+    volume: &mut MemVolume,
+    alloc: Global,
+    path: &Path,
+    bytes: &[u8],
+) -> Result<bool, AllocError> {
+    let shell = Shell {
+        image: MEMORY,
+        is_lazy: false,
+    };
+    let text = cat_line(alloc, path)?;
+    let printed = printed_by(rt, volume, alloc, shell, 0, &text);
+    Ok(printed.out.as_slice() == bytes && printed.err.is_empty())
 }
 
 /// Compares all that stands on a disk in memory with the tree.
@@ -106,20 +155,44 @@ fn compare<R: Files<File = File> + AllocGlobal + Clone + Drop>(
     tree: &Tree,
     sources: &Sources,
     tally: &mut Tally,
-) -> io::Result<()> {
-    let shell = Shell {
-        image: MEMORY,
-        is_lazy: false,
-    };
+) -> Result<(), AllocError> {
     for (path, kind) in tree.items() {
         if let Kind::File(source) = kind {
-            let text = look_line(alloc, "cat", path)?;
-            let (mut out, mut err) = (Vec::new(alloc), Vec::new(alloc));
-            let _ended = shell_line(rt, volume, alloc, shell, (0, &text), &mut out, &mut err);
-            tally.count_file(out.as_slice() == sources.bytes(*source) && err.is_empty());
+            tally.count_file(has_bytes(rt, volume, alloc, path, sources.bytes(*source))?);
         }
     }
     tally.mounts = tally.mounts.saturating_add(1);
+    Ok(())
+}
+
+/// Plays the next line on a disk in memory.
+fn play_next<R: Files<File = File> + AllocGlobal + Clone + Drop + Print>(
+    rt: &R,
+    volume: &mut MemVolume,
+    alloc: Global,
+    number: u32,
+    tree: &mut Tree,
+    numbers: &mut Numbers,
+    sources: &Sources,
+    tally: &mut Tally,
+) -> io::Result<()> {
+    let shell = Shell {
+        image: MEMORY,
+        is_lazy: number / LAZY % 2 == 1,
+    };
+    let line = Line::random(alloc, tree, numbers)?;
+    let wanted = answered(alloc, tree, &line, sources)?;
+    play_line(
+        rt,
+        volume,
+        alloc,
+        shell,
+        u64::from(number),
+        &line,
+        &wanted,
+        tally,
+    )?;
+    tally.most = tally.most.max(tree.items().len());
     Ok(())
 }
 
@@ -136,24 +209,16 @@ pub fn play_memory<R: Files<File = File> + AllocGlobal + Clone + Drop + Print>(
     let mut tree = Tree::new(alloc);
     let mut volume = fresh(threads, alloc)?;
     for number in 0..lines {
-        let shell = Shell {
-            image: MEMORY,
-            is_lazy: number / LAZY % 2 == 1,
-        };
-        let line = Line::random(alloc, &tree, &mut numbers)?;
-        let wanted = answered(alloc, &mut tree, &line, sources)?;
-        let number_told = u64::from(number);
-        play_line(
+        play_next(
             rt,
             &mut volume,
             alloc,
-            shell,
-            number_told,
-            &line,
-            &wanted,
+            number,
+            &mut tree,
+            &mut numbers,
+            sources,
             tally,
         )?;
-        tally.most = tally.most.max(tree.items().len());
         if number % MOUNTED == MOUNTED - 1 {
             volume = mounted_anew(threads, alloc, volume)?;
             compare(rt, &mut volume, alloc, &tree, sources, tally)?;
@@ -189,51 +254,59 @@ impl Script {
         }
     }
 
+    /// Adds the next line of a shell, which has this number.
+    fn add_next(
+        &mut self,
+        alloc: Global,
+        number: u64,
+        tree: &mut Tree,
+        numbers: &mut Numbers,
+        sources: &Sources,
+        tally: &mut Tally,
+    ) -> io::Result<()> {
+        let mut line = Line::random(alloc, tree, numbers)?;
+        if line.word == Word::Check {
+            line.word = Word::Sync;
+        }
+        let wanted = answered(alloc, tree, &line, sources)?;
+        self.add(number, &line, &wanted)?;
+        tally.count(line.word, wanted.why(), true);
+        Ok(())
+    }
+
     /// Adds a line of a shell with this number.
-    fn add(&mut self, number: u64, line: &Line, text: &str, wanted: &Answer) -> io::Result<()> {
-        self.text.push_str(text)?;
+    fn add(&mut self, number: u64, line: &Line, wanted: &Answer) -> io::Result<()> {
+        line.write(&mut self.text)?;
         self.text.push('\n')?;
         self.out.extend_from_slice(&wanted.out)?;
         add_fault(DISK, number, line, wanted, &mut self.err)
     }
 
-    /// Whether a program with these words behind the disk's name prints what it is to print.
+    /// Adds a line that prints a file of these bytes.
+    fn add_file(&mut self, alloc: Global, path: &Path, bytes: &[u8]) -> Result<(), AllocError> {
+        let line = cat_line(alloc, path)?;
+        self.text.push_str(&line)?;
+        self.text.push('\n')?;
+        self.out.extend_from_slice(bytes)
+    }
+
+    /// Whether a shell of the program prints what it is to print.
     fn is_right<R: Files<File = File> + AllocGlobal + Clone + Drop>(
         &self,
         rt: &R,
         threads: &(impl Threads + Sync),
         alloc: Global,
         is_lazy: bool,
-    ) -> io::Result<bool> {
-        let mut words = Vec::new(alloc);
-        words.push(String::from_str(alloc, DISK)?)?;
-        words.push(String::from_str(alloc, "shell")?)?;
-        if is_lazy {
-            words.push(String::from_str(alloc, "--lazy")?)?;
-        }
-        let mut input = self.text.as_bytes();
-        let (mut out, mut err) = (Vec::new(alloc), Vec::new(alloc));
-        let status = xnfs_line::line(rt, threads, alloc, &words, &mut input, &mut out, &mut err);
-        let wanted = if self.err.is_empty() { 0 } else { 1 };
-        Ok(status == wanted && out == self.out && err == self.err)
+    ) -> Result<bool, AllocError> {
+        let words: &[&str] = if is_lazy {
+            &[DISK, "shell", "--lazy"]
+        } else {
+            &[DISK, "shell"]
+        };
+        let ran = Ran::of(rt, threads, alloc, words, self.text.as_bytes())?;
+        let status = if self.err.is_empty() { 0 } else { 1 };
+        Ok(ran.status == status && ran.out == self.out && ran.err == self.err)
     }
-}
-
-/// Makes the disk in a file.
-fn format_file<R: Files<File = File> + AllocGlobal + Clone + Drop>(
-    rt: &R,
-    threads: &(impl Threads + Sync),
-    alloc: Global,
-) -> io::Result<()> {
-    let _ = fs::remove_file(rt, DISK);
-    let mut words = Vec::new(alloc);
-    for word in ["format", DISK, "6000"] {
-        words.push(String::from_str(alloc, word)?)?;
-    }
-    let mut none: &[u8] = &[];
-    let (mut out, mut err) = (Vec::new(alloc), Vec::new(alloc));
-    let _status = xnfs_line::line(rt, threads, alloc, &words, &mut none, &mut out, &mut err);
-    Ok(())
 }
 
 /// Reads all files of the disk in a file by one shell.
@@ -244,14 +317,12 @@ fn compare_file<R: Files<File = File> + AllocGlobal + Clone + Drop>(
     tree: &Tree,
     sources: &Sources,
     tally: &mut Tally,
-) -> io::Result<()> {
+) -> Result<(), AllocError> {
     let mut script = Script::new(alloc);
     let mut files = 0u32;
     for (path, kind) in tree.items() {
         if let Kind::File(source) = kind {
-            script.text.push_str(&look_line(alloc, "cat", path)?)?;
-            script.text.push('\n')?;
-            script.out.extend_from_slice(sources.bytes(*source))?;
+            script.add_file(alloc, path, sources.bytes(*source))?;
             files = files.saturating_add(1);
         }
     }
@@ -263,6 +334,21 @@ fn compare_file<R: Files<File = File> + AllocGlobal + Clone + Drop>(
     Ok(())
 }
 
+/// The lines of the next shell on the disk in a file.
+fn next_script(
+    alloc: Global,
+    tree: &mut Tree,
+    numbers: &mut Numbers,
+    sources: &Sources,
+    tally: &mut Tally,
+) -> io::Result<Script> {
+    let mut script = Script::new(alloc);
+    for number in 1..=u64::from(LAZY) {
+        script.add_next(alloc, number, tree, numbers, sources, tally)?;
+    }
+    Ok(script)
+}
+
 /// Plays so many lines on a disk in a file, as shells of the program.
 pub fn play_file<R: Files<File = File> + AllocGlobal + Clone + Drop + Print>(
     rt: &R,
@@ -272,20 +358,12 @@ pub fn play_file<R: Files<File = File> + AllocGlobal + Clone + Drop + Print>(
     lines: u32,
     tally: &mut Tally,
 ) -> io::Result<()> {
-    format_file(rt, threads, alloc)?;
+    let _ = fs::remove_file(rt, DISK);
+    let _formatted = Ran::of(rt, threads, alloc, &["format", DISK, "6000"], &[])?;
     let mut numbers = Numbers { state: 2 };
     let mut tree = Tree::new(alloc);
     for shell in 0..lines / LAZY {
-        let mut script = Script::new(alloc);
-        for number in 1..=u64::from(LAZY) {
-            let mut line = Line::random(alloc, &tree, &mut numbers)?;
-            if line.word == Word::Check {
-                line.word = Word::Sync;
-            }
-            let wanted = answered(alloc, &mut tree, &line, sources)?;
-            script.add(number, &line, &line.text(alloc)?, &wanted)?;
-            tally.count(line.word, wanted.why(), true);
-        }
+        let script = next_script(alloc, &mut tree, &mut numbers, sources, tally)?;
         if !script.is_right(rt, threads, alloc, shell % 2 == 1)? {
             println!(rt; "wrong: shell {shell}")?;
             tally.wrong = tally.wrong.saturating_add(1);

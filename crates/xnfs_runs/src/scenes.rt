@@ -66,34 +66,66 @@ fn root_a_block(kernel: &mut Kernel<FileLane>, alloc: Global, fs: Fs) -> Result<
     Ok((block, waves))
 }
 
+/// Prints how many waves made a block a root, and answers the block.
+fn print_root(
+    rt: &impl Print,
+    kernel: &mut Kernel<FileLane>,
+    alloc: Global,
+    fs: Fs,
+) -> Result<u32> {
+    let (block, waves) = root_a_block(kernel, alloc, fs)?;
+    println!(rt; "block {block} is a root after {waves} waves")?;
+    Ok(block)
+}
+
+/// Prints what a second opener has.
+fn print_opener<R: Files<File = File> + Print>(rt: &R, alloc: Global) -> Result<()> {
+    match FileDisk::open(rt, alloc, PATH) {
+        Ok(_) => println!(rt; "a second opener has it")?,
+        Err(fault) => println!(rt; "a second opener: {fault}")?,
+    }
+    Ok(())
+}
+
+/// Starts one block more, which is not flushed, and prints how many are free.
+fn print_pending(rt: &impl Print, kernel: &mut Kernel<FileLane>, fs: Fs) -> Result<()> {
+    let is_pending = kernel.init(fs, 2, &[0x42; 512]).is_ok();
+    let free = kernel.free();
+    println!(rt; "one more is pending: {is_pending}, free: {free}")?;
+    Ok(())
+}
+
+/// Prints what was kept: how many blocks are free, and how a block begins.
+fn print_kept(rt: &impl Print, kernel: &Kernel<FileLane>, fs: Fs, block: u32) -> Result<()> {
+    let free = kernel.free();
+    println!(rt; "opened again, free: {free}")?;
+    if let Ok(bytes) = kernel.read(fs, block) {
+        println!(rt; "block {block} begins with {}", bytes[0])?;
+    }
+    Ok(())
+}
+
 /// Plays the scenes, and prints what each comes to.
-pub fn play_scenes(rt: &HostRuntime, threads: &(impl Threads + Sync), alloc: Global) -> Result<()> {
+pub fn play_scenes<R: Files<File = File> + Print>(
+    rt: &R,
+    threads: &(impl Threads + Sync),
+    alloc: Global,
+) -> Result<()> {
     let Some(fs) = Fs::new(0) else {
         return Err(anyhow!("no file system"));
     };
     let _ = fs::remove_file(rt, PATH);
 
     let mut kernel = mounted(threads, alloc, made(rt, alloc)?)?;
-    let (block, waves) = root_a_block(&mut kernel, alloc, fs)?;
-    println!(rt; "block {block} is a root after {waves} waves")?;
-    match FileDisk::open(rt, alloc, PATH) {
-        Ok(_) => println!(rt; "a second opener has it")?,
-        Err(fault) => println!(rt; "a second opener: {fault}")?,
-    }
+    let block = print_root(rt, &mut kernel, alloc, fs)?;
+    print_opener(rt, alloc)?;
 
     // What is not flushed is not kept.
-    let is_pending = kernel.init(fs, 2, &[0x42; 512]).is_ok();
-    println!(rt;
-        "one more is pending: {is_pending}, free: {}",
-        kernel.free()
-    )?;
+    print_pending(rt, &mut kernel, fs)?;
     drop(kernel.into_lanes());
 
     let kernel = mounted(threads, alloc, FileDisk::open(rt, alloc, PATH)?)?;
-    println!(rt; "opened again, free: {}", kernel.free())?;
-    if let Ok(bytes) = kernel.read(fs, block) {
-        println!(rt; "block {block} begins with {}", bytes[0])?;
-    }
+    print_kept(rt, &kernel, fs, block)?;
     fs::remove_file(rt, PATH)?;
     Ok(())
 }

@@ -94,14 +94,20 @@ impl Tally {
     }
 }
 
+impl fmt::Display for Count {
+    fn fmt<W: fmt::Write>(&self, f: &mut fmt::Formatter<W>) -> fmt::Result {
+        let (played, done) = (self.played, self.done);
+        write!(f, "{played:>5}, {done:>5} done")
+    }
+}
+
 impl fmt::Display for Tally {
     fn fmt<W: fmt::Write>(&self, f: &mut fmt::Formatter<W>) -> fmt::Result {
-        for (kind, count) in KINDS.iter().zip(self.counts.iter()) {
-            let (played, done) = (count.played, count.done);
-            writeln!(f, "{kind:<8} {played:>5}, {done:>5} done")?;
+        for (at, kind) in KINDS.iter().enumerate() {
+            writeln!(f, "{kind:<8} {}", self.counts[at])?;
         }
-        for (fault, count) in FAULTS.iter().zip(self.faults.iter()) {
-            writeln!(f, "fault: {fault:<10} {count:>5}")?;
+        for (at, fault) in FAULTS.iter().enumerate() {
+            writeln!(f, "fault: {fault:<10} {:>5}", self.faults[at])?;
         }
         let (mounts, files, most, wrong) = (self.mounts, self.files, self.most, self.wrong);
         writeln!(

@@ -4,12 +4,12 @@
 // it are its standard input. All others, up to the next one that begins with `$ `, are what it prints on standard output and then on
 // standard error, and last `[S]` where it ends with another status than 0. Before the first one all is a comment.
 
+use crate::programs::Ran;
 use std::alloc::{AllocError, Global};
 use std::fs::{File, Files};
 use std::io::Write;
 use std::thread::Threads;
 use std::{fs, io, str};
-use xnfs_line::line;
 
 /// What begins a line of the program.
 const COMMAND: &str = "$ ";
@@ -58,18 +58,43 @@ fn printed<R: Files<File = File> + AllocGlobal + Clone + Drop>(
     alloc: Global,
     step: &Step,
 ) -> io::Result<Vec<u8>> {
-    let mut words = Vec::new(alloc);
-    for word in step.command.split(' ').skip(1) {
-        words.push(String::from_str(alloc, word)?)?;
-    }
-    let mut input = step.input.as_bytes();
-    let (mut out, mut err) = (Vec::new(alloc), Vec::new(alloc));
-    let status = line(rt, threads, alloc, &words, &mut input, &mut out, &mut err);
-    out.extend_from_slice(&err)?;
+    let words: Vec<&str> = step.command.split(' ').skip(1).collect(alloc)?;
+    let ran = Ran::of(rt, threads, alloc, &words, step.input.as_bytes())?;
+    let Ran {
+        status,
+        mut out,
+        err,
+    } = ran;
+    add_end(&mut out, &err, status)?;
+    Ok(out)
+}
+
+/// Adds what a program printed on standard error, and its status where that isn't 0.
+fn add_end(out: &mut Vec<u8>, err: &[u8], status: u8) -> io::Result<()> {
+    out.extend_from_slice(err)?;
     if status != 0 {
         writeln!(out, "[{status}]")?;
     }
-    Ok(out)
+    Ok(())
+}
+
+/// Plays the steps of a transcript, and prints the first that wasn't as written. Answers whether all were.
+fn play_steps<R: Files<File = File> + AllocGlobal + Clone + Drop + Print>(
+    rt: &R,
+    threads: &(impl Threads + Sync),
+    alloc: Global,
+    name: &str,
+    steps: &[Step],
+) -> io::Result<bool> {
+    for step in steps {
+        let printed = printed(rt, threads, alloc, step)?;
+        if printed.as_slice() != step.wanted.as_bytes() {
+            let printed = str::from_utf8(&printed).unwrap_or("no text");
+            println!(rt; "{name}: {}\n{printed}", step.command)?;
+            return Ok(false);
+        }
+    }
+    Ok(true)
 }
 
 /// Plays transcripts, and prints how many lines were as written, or the first that wasn't. Answers whether all were.
@@ -83,13 +108,8 @@ pub fn play_transcripts<R: Files<File = File> + AllocGlobal + Clone + Drop + Pri
     for name in names {
         let text = fs::read_to_string(rt, name.as_str())?;
         let steps = steps(alloc, text.as_str())?;
-        for step in steps.iter() {
-            let printed = printed(rt, threads, alloc, step)?;
-            if printed.as_slice() != step.wanted.as_bytes() {
-                let printed = str::from_utf8(&printed).unwrap_or("no text");
-                println!(rt; "{name}: {}\n{printed}", step.command)?;
-                return Ok(false);
-            }
+        if !play_steps(rt, threads, alloc, name, &steps)? {
+            return Ok(false);
         }
         count = count.saturating_add(text.lines().count());
     }

@@ -7,7 +7,7 @@ use std::alloc::{AllocError, Global};
 const MOST: usize = 127;
 
 /// What stands at a path.
-#[derive(Clone, Copy, Debug, PartialEq, Eq)]
+#[derive(Clone, Copy)]
 pub enum Kind {
     /// A file with the bytes of a source.
     File(u8),
@@ -16,7 +16,7 @@ pub enum Kind {
 }
 
 /// Why a line can't be done.
-#[derive(Clone, Copy, Debug, PartialEq, Eq)]
+#[derive(Clone, Copy)]
 pub enum Why {
     Missing,
     There,
@@ -141,7 +141,7 @@ impl Tree {
 
     /// Adds what is not there, or changes what is there. Its folder has a block from here on.
     pub fn set(&mut self, path: &Path, kind: Kind) -> Result<(), AllocError> {
-        self.give_block(&above(path)?);
+        self.give_block(above(path));
         for (other, found) in self.items.iter_mut() {
             if other.as_slice() == path.as_slice() {
                 *found = kind;
@@ -153,9 +153,9 @@ impl Tree {
     }
 
     /// A folder has a block from here on.
-    pub fn give_block(&mut self, folder: &Path) {
+    pub fn give_block(&mut self, folder: &[u8]) {
         for (other, found) in self.items.iter_mut() {
-            if other.as_slice() == folder.as_slice() {
+            if other.as_slice() == folder {
                 *found = Kind::Folder { has_block: true };
             }
         }

@@ -4,6 +4,7 @@ use crate::failing::calls::{STEPS, Step, edit_of, template_of};
 use crate::failing::lanes::{BLOCKS, CountingLane, Failure, counting_lanes};
 use crate::failing::tally::Tally;
 use crash_check::{ImageFault, mount};
+use disk::{Lane, Lanes};
 use std::alloc::Global;
 use std::thread::Threads;
 use xn_kernel::{DrainStop, FlushStop, Fs, Kernel, Refusal, Store, Ticket};
@@ -32,7 +33,22 @@ pub fn mounted(
     failure: Option<Failure>,
     tally: &mut Tally,
 ) -> Option<Kernel<CountingLane>> {
-    match mount(rt, alloc, counting_lanes(alloc, image, block, failure)?, 1) {
+    mounted_over(
+        rt,
+        alloc,
+        counting_lanes(alloc, image, block, failure)?,
+        tally,
+    )
+}
+
+/// A kernel over these lanes.
+fn mounted_over<L: Lane + Drop>(
+    rt: &(impl Threads + Sync),
+    alloc: Global,
+    lanes: Lanes<L>,
+    tally: &mut Tally,
+) -> Option<Kernel<L>> {
+    match mount(rt, alloc, lanes, 1) {
         Ok(kernel) => Some(kernel),
         Err((ImageFault::Device, lanes)) => {
             tally.mounts = tally.mounts.saturating_add(1);
@@ -43,7 +59,7 @@ pub fn mounted(
 }
 
 /// Ends a write that was given out, behind a sync where it needs one; whether that makes its entries durable.
-fn is_ended(kernel: &mut Kernel<CountingLane>, mut ticket: Ticket<CountingLane>) -> bool {
+fn is_ended<L: Lane + Drop>(kernel: &mut Kernel<L>, mut ticket: Ticket<L>) -> bool {
     if ticket.is_unsynced() {
         let _synced = ticket.sync();
     }
@@ -57,17 +73,11 @@ fn is_ended(kernel: &mut Kernel<CountingLane>, mut ticket: Ticket<CountingLane>)
 }
 
 /// Writes all that is pending; the writes that were given out where that stopped, and why.
-fn stopped(
-    kernel: &mut Kernel<CountingLane>,
+fn stopped<L: Lane + Drop>(
+    kernel: &mut Kernel<L>,
     alloc: Global,
     how: How,
-) -> Option<
-    (
-        Option<Ticket<CountingLane>>,
-        Vec<Ticket<CountingLane>>,
-        Refusal,
-    ),
-> {
+) -> Option<(Option<Ticket<L>>, Vec<Ticket<L>>, Refusal)> {
     match how {
         How::Drain => match kernel.drain() {
             Ok(_writes) => None,
@@ -95,8 +105,8 @@ fn stopped(
 }
 
 /// Writes all that is pending, and goes on once where a lane failed, behind the writes that were given out; whether all is written.
-pub fn settle(
-    kernel: &mut Kernel<CountingLane>,
+pub fn settle<L: Lane + Drop>(
+    kernel: &mut Kernel<L>,
     alloc: Global,
     how: How,
     tally: &mut Tally,
@@ -124,8 +134,8 @@ pub fn settle(
 }
 
 /// Takes a step of a file system; whether it was done.
-fn take(
-    kernel: &mut Kernel<CountingLane>,
+fn take<L: Lane + Drop>(
+    kernel: &mut Kernel<L>,
     alloc: Global,
     how: How,
     tally: &mut Tally,
@@ -156,12 +166,29 @@ pub fn played(
 ) -> Option<Kernel<CountingLane>> {
     let Scene { image, how } = scene;
     let mut kernel = mounted(rt, alloc, image, block, failure, tally)?;
+    if are_taken(&mut kernel, alloc, how, tally) {
+        Some(kernel)
+    } else {
+        None
+    }
+}
+
+/// Takes all steps; whether each was done.
+fn are_taken<L: Lane + Drop>(
+    kernel: &mut Kernel<L>,
+    alloc: Global,
+    how: How,
+    tally: &mut Tally,
+) -> bool {
     for &(number, step) in &STEPS {
-        if !take(&mut kernel, alloc, how, tally, Fs::new(number)?, step) {
-            return None;
+        let Some(fs) = Fs::new(number) else {
+            return false;
+        };
+        if !take(kernel, alloc, how, tally, fs, step) {
+            return false;
         }
     }
-    Some(kernel)
+    true
 }
 
 /// Whether two kernels end with the same: the bytes of each block, the floors of the first two file systems, and how many blocks are free.
@@ -172,6 +199,11 @@ pub fn end_alike(one: &Kernel<CountingLane>, two: &Kernel<CountingLane>) -> bool
             _ => return false,
         }
     }
+    have_same_floors(one, two)
+}
+
+/// Whether the floors of the first two file systems are the same, and how many blocks are free.
+fn have_same_floors<L: Lane>(one: &Kernel<L>, two: &Kernel<L>) -> bool {
     for number in 0..2 {
         match Fs::new(number) {
             Some(fs) if one.floor(fs) == two.floor(fs) => {}

@@ -8,6 +8,7 @@ use crate::failing::calls::edit_of;
 use crate::failing::lanes::{CountingLane, Failure};
 use crate::failing::tally::Tally;
 use crate::sharing::{Open, hub_of};
+use disk::Lane;
 use durable_floor::{Floor, Naming, Publisher, Reader};
 use shared::{FlushEnd, Flusher, Shared};
 use std::alloc::Global;
@@ -29,7 +30,7 @@ pub enum Writer {
 }
 
 /// A kernel that threads share.
-type SharedKernel<K> = Shared<CountingLane, Open, K>;
+type SharedKernel<L, K> = Shared<L, Open, K>;
 
 /// A kernel in which each of four file systems has a root, blocks 1 to 4. `None` here and below: it went otherwise.
 fn started(
@@ -40,16 +41,36 @@ fn started(
     failure: Option<Failure>,
 ) -> Option<Kernel<CountingLane>> {
     let mut kernel = mounted(rt, alloc, image, block, failure, &mut Tally::new())?;
-    for number in 0..4 {
-        let fs = Fs::new(number)?;
-        let (block, _) = kernel.init(fs, 2, &[number; 512]).ok()?;
-        let _rooted = kernel.make_root(fs, block).ok()?;
+    if are_rooted(&mut kernel) {
+        Some(kernel)
+    } else {
+        None
     }
-    Some(kernel)
+}
+
+/// Gives each of four file systems a root; whether all have one.
+fn are_rooted<L: Lane>(kernel: &mut Kernel<L>) -> bool {
+    for number in 0..4 {
+        let Some(fs) = Fs::new(number) else {
+            return false;
+        };
+        let Ok((block, _)) = kernel.init(fs, 2, &[number; 512]) else {
+            return false;
+        };
+        if kernel.make_root(fs, block).is_err() {
+            return false;
+        }
+    }
+    true
 }
 
 /// A worker's edits, through the lock; whether all were accepted.
-fn work<K: Naming, R: Wait>(rt: &R, alloc: Global, shared: &SharedKernel<K>, number: u8) -> bool {
+fn work<L: Lane + Drop, K: Naming, R: Wait>(
+    rt: &R,
+    alloc: Global,
+    shared: &SharedKernel<L, K>,
+    number: u8,
+) -> bool {
     let Some(fs) = Fs::new(number) else {
         return false;
     };
@@ -67,10 +88,10 @@ fn work<K: Naming, R: Wait>(rt: &R, alloc: Global, shared: &SharedKernel<K>, num
 }
 
 /// Four workers at once, after which the flushers may end; whether all edits were accepted.
-fn four_workers<K: Naming + Send + Sync, R: Threads + Wait + Sync>(
+fn four_workers<L: Lane + Drop + Send + Sync, K: Naming + Send + Sync, R: Threads + Wait + Sync>(
     rt: &R,
     alloc: Global,
-    shared: &SharedKernel<K>,
+    shared: &SharedKernel<L, K>,
 ) -> bool {
     let worked = map_indices(
         rt,
@@ -89,10 +110,10 @@ fn four_workers<K: Naming + Send + Sync, R: Threads + Wait + Sync>(
 }
 
 /// Ends a write that was given out, behind a sync where it needs one; whether that makes its entries durable.
-fn is_ended<K: Naming, R: Wait>(
+fn is_ended<L: Lane + Drop, K: Naming, R: Wait>(
     rt: &R,
-    shared: &SharedKernel<K>,
-    mut ticket: Ticket<CountingLane>,
+    shared: &SharedKernel<L, K>,
+    mut ticket: Ticket<L>,
 ) -> bool {
     if ticket.is_unsynced() {
         let _synced = ticket.sync();
@@ -113,10 +134,10 @@ fn is_ended<K: Naming, R: Wait>(
 }
 
 /// Writes what is pending as a flusher, or by a flush of the hub, and goes on behind a device fault; how many there were.
-fn flush<K: Naming, R: Wait>(
+fn flush<L: Lane + Drop, K: Naming, R: Wait>(
     rt: &R,
     alloc: Global,
-    shared: &SharedKernel<K>,
+    shared: &SharedKernel<L, K>,
     writer: Writer,
 ) -> Option<u32> {
     for faults in 0..3 {
@@ -159,10 +180,10 @@ fn flush<K: Naming, R: Wait>(
 }
 
 /// Workers, and who writes beside them or behind them; how many faults these met.
-fn written<K: Naming + Send + Sync, R: Threads + Wait + Sync>(
+fn written<L: Lane + Drop + Send + Sync, K: Naming + Send + Sync, R: Threads + Wait + Sync>(
     rt: &R,
     alloc: Global,
-    shared: &SharedKernel<K>,
+    shared: &SharedKernel<L, K>,
     writer: Writer,
 ) -> Option<u32> {
     if let Writer::Hub = writer {
@@ -205,21 +226,21 @@ fn are_past_all(floor: &Floor, mut reader: Reader) -> bool
 
 /// The kernel behind workers and who writes, and how many faults were met. Each file system's word is past all its entries then: each made two
 /// and its edits.
-fn scene<K: Naming + Send + Sync, R: Threads + Wait + Sync>(
+fn scene<L: Lane + Drop + Send + Sync, K: Naming + Send + Sync, R: Threads + Wait + Sync>(
     rt: &R,
     alloc: Global,
     floor: Floor,
     publisher: Publisher,
     mut readers: Vec<Reader>,
-    kernel: Kernel<CountingLane>,
+    kernel: Kernel<L>,
     writer: Writer,
-) -> Option<(Kernel<CountingLane>, u32)>
+) -> Option<(Kernel<L>, u32)>
     requires floor { floor ≡ K.floor }
     requires publisher { publisher ≡ record { floor = floor; seen = zero_floor } }
     requires readers { All (λ reader. reader.floor ≡ K.floor) readers.items }
 {
     let (hub, floor) = hub_of(alloc, kernel, floor, publisher)?;
-    let shared: SharedKernel<K> = Shared::new(hub, floor, Open);
+    let shared: SharedKernel<L, K> = Shared::new(hub, floor, Open);
     let reader = readers.pop()?;
     let faults = written(rt, alloc, &shared, writer)?;
     if !are_past_all(shared.floor(), reader) {
@@ -239,7 +260,7 @@ pub fn run_at_once<R: Threads + Wait + Sync>(
 ) -> Option<(Kernel<CountingLane>, u32)> {
     let kernel = started(rt, alloc, image, block, Some(failure))?;
     let (floor, publisher, readers) = Floor::new(alloc, 1).ok()?;
-    scene::<Brand, _>(rt, alloc, floor, publisher, readers, kernel, writer)
+    scene::<_, Brand, _>(rt, alloc, floor, publisher, readers, kernel, writer)
 }
 
 /// The same calls in one thread over lanes of which none fails, with a drain behind them.
@@ -249,16 +270,27 @@ pub fn run_alone(
     image: &[u8],
 ) -> Option<Kernel<CountingLane>> {
     let mut kernel = started(rt, alloc, image, 0, None)?;
-    for number in 0..4u8 {
-        let fs = Fs::new(number)?;
-        for count in 0..EDITS {
-            let edit = edit_of(alloc, count, None, None).ok()?;
-            let _edited = kernel.propose(fs, u32::from(number) + 1, &edit).ok()?;
-        }
-    }
-    if settle(&mut kernel, alloc, How::Drain, &mut Tally::new()) {
+    if are_made(&mut kernel, alloc) {
         Some(kernel)
     } else {
         None
     }
+}
+
+/// Makes the workers' edits, and writes all that is pending; whether that was done.
+fn are_made<L: Lane + Drop>(kernel: &mut Kernel<L>, alloc: Global) -> bool {
+    for number in 0..4u8 {
+        let Some(fs) = Fs::new(number) else {
+            return false;
+        };
+        for count in 0..EDITS {
+            let Ok(edit) = edit_of(alloc, count, None, None) else {
+                return false;
+            };
+            if kernel.propose(fs, u32::from(number) + 1, &edit).is_err() {
+                return false;
+            }
+        }
+    }
+    settle(kernel, alloc, How::Drain, &mut Tally::new())
 }

@@ -49,7 +49,7 @@ fn has_answer<K: Naming, R: Wait>(
     let answers = match worker(&shared, rt, alloc, fs, &calls) {
         Ok(answers) => answers,
         Err(_) if shared.with(rt, |hub| hub.kernel().free()) != 31 => return Ok(false),
-        Err(_) => worker(&shared, rt, alloc, fs, &calls).map_err(|_| Miss::NoMemory)?,
+        Err(_) => worker(&shared, rt, alloc, fs, &calls)?,
     };
     match answers.as_slice() {
         [Answer::Init(Ok(_))] => Ok(shared.with(rt, |hub| hub.kernel().free()) == 30),
@@ -61,6 +61,6 @@ fn has_answer<K: Naming, R: Wait>(
 /// Whether that holds of a client of a fresh disk.
 pub fn is_answered<R: Threads + Wait + Sync>(rt: &R, alloc: Global) -> Result<bool, Miss> {
     let kernel = fresh_kernel(rt, alloc).ok_or(Miss::NoMemory)?;
-    let (floor, publisher, _readers) = Floor::new(alloc, 0).map_err(|_| Miss::NoMemory)?;
+    let (floor, publisher, _readers) = Floor::new(alloc, 0)?;
     has_answer::<Brand, _>(rt, alloc, floor, publisher, kernel)
 }

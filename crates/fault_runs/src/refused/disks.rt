@@ -10,7 +10,7 @@ use crash_check::{ImageFault, check, mount};
 use disk::{MemDisk, fresh_lanes};
 use std::alloc::{AllocError, Global};
 use std::thread::Threads;
-use templates::{FormatFault, Table, builtin, format_image};
+use templates::{Table, builtin, format_image};
 use xn_model::Refusal;
 use xn_state::law::fresh_disks_are_found;
 use xn_state::{Found, Fs, State};
@@ -26,7 +26,7 @@ const ROOT: Found = Found {
 /// Whether lanes are joined to the bytes that they have. They come back, all of them, where there is no memory for these.
 pub fn is_joined(alloc: Global) -> Result<bool, Miss> {
     let bytes = [7; 1024];
-    let lanes = fresh_lanes(alloc, &bytes).map_err(|_| Miss::NoMemory)?;
+    let lanes = fresh_lanes(alloc, &bytes)?;
     match MemDisk::join(alloc, lanes) {
         Ok(disk) => Ok(disk.bytes() == bytes.as_slice()),
         Err(lanes) => match MemDisk::join(alloc, lanes) {
@@ -38,11 +38,9 @@ pub fn is_joined(alloc: Global) -> Result<bool, Miss> {
 
 /// Whether a fresh disk is checked that has a template: block 0 and the template's are reached, and all others are free.
 pub fn is_checked(rt: &(impl Threads + Sync), alloc: Global) -> Result<bool, Miss> {
-    let template = builtin(alloc, 2).map_err(|_| Miss::NoMemory)?;
-    let image = format_image(alloc, 32, &[template]).map_err(|fault| Miss::of(
-        fault == FormatFault::NoMemory,
-    ))?;
-    let report = check(rt, alloc, &image).map_err(|fault| Miss::of(fault == ImageFault::NoMemory))?;
+    let template = builtin(alloc, 2)?;
+    let image = format_image(alloc, 32, &[template])?;
+    let report = check(rt, alloc, &image)?;
     let (reached, free) = (&report.reached, report.free.as_slice());
     let are_reached = reached.len() == 2
         && reached.get(&0) == Some(&0)
@@ -66,7 +64,7 @@ pub fn has_state(alloc: Global) -> Result<bool, Miss> {
     };
     let image = match format_image(alloc, 32, &[]) {
         Ok(image) => image,
-        Err(fault) => return Err(Miss::of(fault == FormatFault::NoMemory)),
+        Err(fault) => return Err(Miss::from(fault)),
     };
     let Ok(table) = Table::new(alloc) else {
         return Err(Miss::NoMemory);
@@ -83,13 +81,11 @@ pub fn has_state(alloc: Global) -> Result<bool, Miss> {
 
 /// Whether a fresh disk is mounted. Where there is no memory for that its lanes come back: it is refused again if one of them is missing.
 pub fn is_mounted(rt: &(impl Threads + Sync), alloc: Global) -> Result<bool, Miss> {
-    let image = format_image(alloc, 32, &[]).map_err(|fault| Miss::of(
-        fault == FormatFault::NoMemory,
-    ))?;
+    let image = format_image(alloc, 32, &[])?;
     if image.len() != 16_384 {
         return Ok(false);
     }
-    let lanes = fresh_lanes(alloc, &image).map_err(|_| Miss::NoMemory)?;
+    let lanes = fresh_lanes(alloc, &image)?;
     match mount(rt, alloc, lanes, 1) {
         Ok(kernel) => Ok(kernel.free() == 31),
         Err((ImageFault::NoMemory, lanes)) => Err(Miss::of(mount(rt, alloc, lanes, 1).is_ok())),

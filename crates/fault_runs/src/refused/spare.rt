@@ -39,16 +39,33 @@ fn print_calls<K: Naming>(
     println!(rt; "calls that take no memory:")?;
     let (language, root) = (programs.language(), programs.root_block());
     let templates = programs.templates();
+    let (looks, changes) = (alone.looks(), alone.changes());
+    let hub_looks = hub_looks(&hub, first, second);
+    let hub_changes = hub_changes(&mut hub, &floor, &mut reader, first, second);
+    print_counts(
+        rt,
+        [language, root, templates],
+        [looks, changes],
+        [hub_looks, hub_changes],
+    )?;
+    Ok(true)
+}
+
+/// Prints how many calls of each kind did what they should.
+fn print_counts(
+    rt: &impl Print,
+    programs: [u32; 3],
+    alone: [u32; 2],
+    shared: [u32; 2],
+) -> io::Result<()> {
+    let [language, root, templates] = programs;
     println!(rt;
         "of the language {language} of 4, of block 0 {root} of 4, of templates {templates} of 4"
     )?;
-    let looks = alone.looks();
-    let changes = alone.changes();
+    let [looks, changes] = alone;
     println!(rt; "of a kernel: looks {looks} of 5, changes {changes} of 5")?;
-    let looks = hub_looks(&hub, first, second);
-    let changes = hub_changes(&mut hub, &floor, &mut reader, first, second);
-    println!(rt; "of a shared kernel: looks {looks} of 5, changes {changes} of 5")?;
-    Ok(true)
+    let [looks, changes] = shared;
+    println!(rt; "of a shared kernel: looks {looks} of 5, changes {changes} of 5")
 }
 
 /// Makes what these calls need, and tries them. Whether there was memory for that; where there was none, nothing is printed.

@@ -5,7 +5,7 @@ ghost use Rattle.std.specs.Prelude.{◌≡◌};
 use crate::refused::clients::fresh_kernel;
 use crate::refused::tally::count;
 use crash_check::mount;
-use disk::{Lanes, MemLane, fresh_lanes};
+use disk::{Lane, Lanes, MemLane, fresh_lanes};
 use durable_floor::{Floor, Naming, Reader};
 use shared::Hub;
 use std::alloc::Global;
@@ -28,18 +28,17 @@ impl Blocks {
     pub fn new(rt: &(impl Threads + Sync), alloc: Global) -> Option<Blocks> {
         let (first, second) = (Fs::new(0)?, Fs::new(1)?);
         let mut kernel = fresh_kernel(rt, alloc)?;
-        let _ = kernel.init(first, 2, &[1; 512]).ok()?;
-        let _ = kernel.make_root(first, 1).ok()?;
-        if !is_drained(kernel.drain(), 2) {
+        if !is_rooted(&mut kernel, first) {
             return None;
         }
         let mut kernel = mount(rt, alloc, kernel.into_lanes(), 2).ok()?;
-        let _ = kernel.init(first, 2, &[2; 512]).ok()?;
-        let _ = kernel.init(second, 2, &[3; 512]).ok()?;
-        let _ = kernel.init(second, 2, &[4; 512]).ok()?;
+        if !are_fresh(&mut kernel, first, second) {
+            return None;
+        }
+        let lanes = fresh_lanes(alloc, &[5; 1024]).ok()?;
         Some(Blocks {
             kernel,
-            lanes: fresh_lanes(alloc, &[5; 1024]).ok()?,
+            lanes,
             first,
             second,
         })
@@ -47,19 +46,7 @@ impl Blocks {
 
     /// How many of 5 looks find what they should.
     pub fn looks(&self) -> u32 {
-        let Blocks {
-            kernel,
-            lanes: _,
-            first,
-            second,
-        } = self;
-        count(&[
-            kernel.read(*first, 1) == Ok(&[1; 512]) && kernel.root(*first) == Some(1),
-            kernel.kind(*first, 1) == Ok(2) && !kernel.tainted(1),
-            kernel.template(1).is_some() && kernel.template(3).is_none(),
-            kernel.pending(*second) == 2 && kernel.floor(*second) == 2,
-            kernel.free() == 27 && kernel.pick() == Some(2) && kernel.lane(1).is_some(),
-        ])
+        kernel_looks(&self.kernel, self.first, self.second)
     }
 
     /// How many of 5 changes do what they should.
@@ -70,19 +57,49 @@ impl Blocks {
             first,
             ..
         } = self;
-        let is_forgotten = kernel.forget(first, 2).is_ok();
-        let is_written = match kernel.begin(3) {
-            Ok(mut ticket) => {
-                let _done = ticket.land().is_ok() && ticket.sync().is_ok();
-                is_finished(kernel.finish(ticket))
-            }
-            Err(_) => false,
-        };
-        let is_drained = is_drained(kernel.drain(), 1);
+        let [is_forgotten, is_written, is_drained] = kernel_changes(&mut kernel, first);
         let is_home = is_given_back(kernel.into_lanes(), 32, 3);
         let is_given = is_given_back(lanes, 2, 1);
         count(&[is_forgotten, is_written, is_drained, is_home, is_given])
     }
+}
+
+/// How many of 5 looks at such a kernel find what they should.
+fn kernel_looks<L: Lane>(kernel: &Kernel<L>, first: Fs, second: Fs) -> u32 {
+    count(&[
+        kernel.read(first, 1) == Ok(&[1; 512]) && kernel.root(first) == Some(1),
+        kernel.kind(first, 1) == Ok(2) && !kernel.tainted(1),
+        kernel.template(1).is_some() && kernel.template(3).is_none(),
+        kernel.pending(second) == 2 && kernel.floor(second) == 2,
+        kernel.free() == 27 && kernel.pick() == Some(2) && kernel.lane(1).is_some(),
+    ])
+}
+
+/// Whether its block 2 is forgotten, its block 3 written, and all then drained.
+fn kernel_changes<L: Lane + Drop>(kernel: &mut Kernel<L>, fs: Fs) -> [bool; 3] {
+    let is_forgotten = kernel.forget(fs, 2).is_ok();
+    let is_written = match kernel.begin(3) {
+        Ok(mut ticket) => {
+            let _done = ticket.land().is_ok() && ticket.sync().is_ok();
+            is_finished(kernel.finish(ticket))
+        }
+        Err(_) => false,
+    };
+    [is_forgotten, is_written, is_drained(kernel.drain(), 1)]
+}
+
+/// Starts block 1, makes it the root and durable; whether all was done.
+fn is_rooted<L: Lane + Drop>(kernel: &mut Kernel<L>, fs: Fs) -> bool {
+    kernel.init(fs, 2, &[1; 512]).is_ok()
+        && kernel.make_root(fs, 1).is_ok()
+        && is_drained(kernel.drain(), 2)
+}
+
+/// Starts blocks 2, 3 and 4; whether all was done.
+fn are_fresh<L: Lane>(kernel: &mut Kernel<L>, first: Fs, second: Fs) -> bool {
+    kernel.init(first, 2, &[2; 512]).is_ok()
+        && kernel.init(second, 2, &[3; 512]).is_ok()
+        && kernel.init(second, 2, &[4; 512]).is_ok()
 }
 
 /// Whether there are so many lanes, and that of a block is taken out and put back. Its block ends with a byte that is no 0.
@@ -98,7 +115,7 @@ fn is_given_back(lanes: Lanes<MemLane>, blocks: usize, block: u32) -> bool {
 }
 
 /// How many of 5 looks at such a kernel in a hub find what they should.
-pub fn hub_looks<K: Naming>(hub: &Hub<MemLane, K>, first: Fs, second: Fs) -> u32 {
+pub fn hub_looks<L: Lane, K: Naming>(hub: &Hub<L, K>, first: Fs, second: Fs) -> u32 {
     count(&[
         hub.read(first, 1) == Ok(&[1; 512]) && hub.root(first) == Some(1),
         hub.kind(first, 1) == Ok(2) && !hub.kernel().tainted(1),
@@ -112,8 +129,8 @@ pub fn hub_looks<K: Naming>(hub: &Hub<MemLane, K>, first: Fs, second: Fs) -> u32
 
 /// How many of 5 changes of it do what they should. The word of file system 1 is raised to its floor, which a reader meets and then reads
 /// with no lock.
-pub fn hub_changes<K: Naming>(
-    hub: &mut Hub<MemLane, K>,
+pub fn hub_changes<L: Lane + Drop, K: Naming>(
+    hub: &mut Hub<L, K>,
     floor: &Floor,
     reader: &mut Reader,
     first: Fs,
@@ -137,7 +154,7 @@ pub fn hub_changes<K: Naming>(
 }
 
 /// Whether a finish made one entry durable. A ticket that comes back is given up.
-fn is_finished(answer: Result<Landed, (Ticket<MemLane>, Refusal)>) -> bool {
+fn is_finished<L: Lane + Drop>(answer: Result<Landed, (Ticket<L>, Refusal)>) -> bool {
     match answer {
         Ok(landed) => landed.durable == 1,
         Err((ticket, _refusal)) => {
@@ -148,7 +165,7 @@ fn is_finished(answer: Result<Landed, (Ticket<MemLane>, Refusal)>) -> bool {
 }
 
 /// Whether a drain wrote all that was pending, in so many writes. A ticket that it gave out is given up.
-fn is_drained(answer: Result<u32, DrainStop<MemLane>>, right: u32) -> bool {
+fn is_drained<L: Lane + Drop>(answer: Result<u32, DrainStop<L>>, right: u32) -> bool {
     match answer {
         Ok(writes) => writes == right,
         Err(

@@ -10,32 +10,30 @@ use std::alloc::Global;
 use std::io;
 use std::sync::Wait;
 use std::thread::Threads;
-use templates::{TemplateFault, builtin, read_block, write_block};
-use udf_asm::{AsmKind, assemble, print};
-use udf_code::{CodeFault, decode, encode, well_formed};
-use udf_verify::{FaultKind, Role, judge, verify};
+use templates::{builtin, read_block, write_block};
+use udf_asm::{assemble, print};
+use udf_code::{decode, encode, well_formed};
+use udf_verify::{Role, judge, verify};
 
 /// A program's text.
 const TEXT: &str = "SET 1 4\nLD4 2 1\n";
 
 /// Whether a program's text is printed as it was assembled, and its bytes are decoded as they were encoded.
 fn is_spelled_again(alloc: Global) -> Result<bool, Miss> {
-    let words = assemble(alloc, TEXT).map_err(|fault| Miss::of(fault.kind == AsmKind::NoMemory))?;
-    let text = print(alloc, &words).map_err(|_| Miss::NoMemory)?;
-    let bytes = encode(alloc, &words).map_err(|_| Miss::NoMemory)?;
-    let again = decode(alloc, &bytes).map_err(|fault| Miss::of(fault == CodeFault::NoMemory))?;
+    let words = assemble(alloc, TEXT)?;
+    let text = print(alloc, &words)?;
+    let bytes = encode(alloc, &words)?;
+    let again = decode(alloc, &bytes)?;
     Ok(text.as_str() == TEXT && again.as_slice() == words.as_slice())
 }
 
 /// Whether the verifier accepts a program, and keeps its words.
 fn is_verified(alloc: Global) -> Result<bool, Miss> {
-    let words = assemble(alloc, TEXT).map_err(|fault| Miss::of(fault.kind == AsmKind::NoMemory))?;
+    let words = assemble(alloc, TEXT)?;
     if well_formed(&words).is_err() {
         return Ok(false);
     }
-    let checked = verify(alloc, &words, Role::Owns).map_err(|fault| Miss::of(
-        fault.kind == FaultKind::NoMemory,
-    ))?;
+    let checked = verify(alloc, &words, Role::Owns)?;
     let is_kept = checked.words() == words.as_slice() && checked.role() == Role::Owns;
     Ok(is_kept && judge(&words, Role::Owns).is_ok())
 }
@@ -44,11 +42,9 @@ fn is_verified(alloc: Global) -> Result<bool, Miss> {
 fn is_built_in(alloc: Global, ty: u32, head: &[u8]) -> Result<bool, Miss>
     requires { ty < 3 }
 {
-    let template = builtin(alloc, ty).map_err(|_| Miss::NoMemory)?;
+    let template = builtin(alloc, ty)?;
     let block = write_block(&template);
-    let again = read_block(alloc, &block).map_err(|fault| Miss::of(
-        fault == TemplateFault::NoMemory,
-    ))?;
+    let again = read_block(alloc, &block)?;
     Ok(block.starts_with(head) && write_block(&again) == block)
 }
 
@@ -66,7 +62,7 @@ fn is_right<R: Threads + Wait + Sync>(rt: &R, alloc: Global, number: u32) -> Res
         6 => has_state(alloc),
         7 => is_mounted(rt, alloc),
         8 => {
-            let (_floor, _publisher, readers) = Floor::new(alloc, 2).map_err(|_| Miss::NoMemory)?;
+            let (_floor, _publisher, readers) = Floor::new(alloc, 2)?;
             Ok(readers.len() == 2)
         }
         _ => is_answered(rt, alloc),
