@@ -1,3 +1,4 @@
+#!/usr/bin/env python3
 """Reads a disk image, by docs/FORMAT.md alone.
 
 read_disk.py IMAGE [FILESYSTEM]          prints the tree of a volume as `xnfs IMAGE tree` does
