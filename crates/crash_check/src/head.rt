@@ -1,12 +1,13 @@
 // The head of an image: its length, and the mark and the count in block 0.
 
-ghost use Rattle.std.specs.Prelude.{◌≡◌, ◌<◌, ◌≤◌, length, None};
+ghost use Rattle.std.specs.Prelude.{◌≡◌, ◌<◌, ◌≤◌, ◌*◌, length, None};
+ghost use Rattle.xn_model.specs.Images.{most_blocks};
 ghost use Rattle.image_model.specs.Walk.{count_of, head_fault};
 
 use crate::blocks::block;
-use disk::BLOCK_LEN;
+use disk::{BLOCK_LEN, MAX_BLOCKS};
 use image_model::ImageFault;
-use templates::{MAX_BLOCKS, MIN_BLOCKS, count_of, mark_is_right};
+use templates::{MIN_BLOCKS, count_of, mark_is_right};
 
 /// What is wrong with the length, the mark or the count.
 #[tactic(auto, unfolding(image_model::specs::Walk::head_fault, image_model::specs::Walk::has_length))]
@@ -14,7 +15,7 @@ pub fn head_fault(image: &[u8]) -> Option<ImageFault>
     ensures value { result ≡ head_fault image.now }
     ensures blocks { result ≡ None → 0 < count_of image.now }
     ensures long { result ≡ None → 16384 ≤ length image.now }
-    ensures small { result ≡ None → length image.now ≤ 16777216 }
+    ensures small { result ≡ None → length image.now ≤ 512 * most_blocks }
 {
     let length = image.len();
     let least = BLOCK_LEN * MIN_BLOCKS as usize;

@@ -1,16 +1,15 @@
 // The named blocks.
 
-ghost use Rattle.std.specs.Prelude.{◌≡◌, ◌^◌, ◌<◌, ◌++◌, ◌∷◌, ◌||◌, ◌==◌, [], false, length, replicate, Some, IfOk, IsTrue, OnOk, slice_get};
+ghost use Rattle.std.specs.Prelude.{◌≡◌, ◌^◌, ◌<◌, ◌++◌, ◌∷◌, ◌||◌, ◌==◌, ℕ, [], false, length, get_or, Some, IfOk, IsTrue, OnOk, slice_get};
 ghost use Rattle.image_model.specs.Walk.{has_block};
 ghost use Rattle.crash_check.specs.Marks.{NamedList};
 
 use image_model::Place;
 use std::alloc::{AllocError, Global};
 use std::marker::Model;
-use templates::MAX_BLOCKS;
 
 /// The blocks that are named, in the order of their names, each with its place. Beside them stands a mark for each block of the
-/// largest disk, which says whether it is 0 or named.
+/// disk, which says whether it is 0 or named; one behind the last mark is not.
 #[derive(Drop)]
 pub struct NamedBlocks {
     entries: Vec<(u32, Place)>,
@@ -30,10 +29,11 @@ impl Model for NamedBlocks {
 impl NamedBlocks {
     /// No block, with room for those of a disk.
     pub fn new(alloc: Global, count: usize) -> Result<NamedBlocks, AllocError>
+        requires { 0 < count }
         ensures { IfOk result (λ named. named.entries ≡ []) }
     {
         let entries = Vec::with_capacity(alloc, count)?;
-        let mut marks = no_marks(alloc)?;
+        let mut marks = vec![in alloc; false; count]?;
         marks[0] = true;
         Ok(NamedBlocks { entries, marks })
     }
@@ -56,49 +56,55 @@ impl NamedBlocks {
 
     /// Whether a block is named.
     pub fn has(&self, block: u32) -> bool
-        requires nonzero { 0 < block }
-        requires within { block < 32768 }
+        requires { 0 < block }
         ensures { result ≡ has_block self.now.entries block }
     {
-        self.marks[block as usize]
+        self.is_taken(block)
     }
 
     /// Whether a block is 0 or named.
     pub fn is_taken(&self, block: u32) -> bool
-        requires { block < 32768 }
         ensures { result ≡ ((block == 0) || has_block self.now.entries block) }
     {
-        self.marks[block as usize]
+        match self.marks.get(block as usize) {
+            Some(mark) => *mark,
+            None => false,
+        }
     }
 
     /// Puts a block behind the others.
     pub fn push(&mut self, block: u32, place: Place) -> Result<(), AllocError>
-        requires { block < 32768 }
         ensures { OnOk result (self.new.entries ≡ self.old.entries ++ (block, place) ∷ []) }
     {
+        reach(&mut self.marks, block as usize)?;
         self.entries.push((block, place))?;
         self.marks[block as usize] = true;
         Ok(())
     }
 
-    /// The same, unless the list has no room for one more. Answers whether it had.
+    /// The same, unless the lists have no room for one more. Answers whether they had.
     pub fn push_within(&mut self, block: u32, place: Place) -> bool
-        requires { block < 32768 }
         ensures pushed { IsTrue result → self.new.entries ≡ self.old.entries ++ (block, place) ∷ [] }
         ensures full { result ≡ false → self.new.entries ≡ self.old.entries }
     {
-        if self.entries.len() == self.entries.capacity() {
+        let at = block as usize;
+        if self.marks.len() <= at || self.entries.len() == self.entries.capacity() {
             return false;
         }
-        self.marks[block as usize] = true;
+        self.marks[at] = true;
         self.entries.push_reserved((block, place));
         true
     }
 }
 
-/// A mark for each block of the largest disk, none of them set.
-fn no_marks(alloc: Global) -> Result<Vec<bool>, AllocError>
-    ensures { IfOk result (λ marks. marks.items ≡ replicate 32768 false) }
+/// Puts marks that are not set behind the others, up to this place.
+fn reach(marks: &mut Vec<bool>, place: usize) -> Result<(), AllocError>
+    requires { place < 2 ^ 32 }
+    ensures same { (b : ℕ) → get_or marks.new.items b false ≡ get_or marks.old.items b false }
+    ensures long { OnOk result (place < length marks.new.items) }
 {
-    vec![in alloc; false; MAX_BLOCKS as usize]
+    if marks.len() <= place {
+        marks.resize(place + 1, false)?;
+    }
+    Ok(())
 }

@@ -21,7 +21,6 @@ pub fn visit_root(
     blocks: &[[u8; 512]],
 ) -> Result<NamedBlocks, ImageFault>
     requires some { 0 < length blocks.now }
-    requires few { length blocks.now ≤ 32768 }
     ensures { AnswersAs result (λ named. named.entries) (visit_root (table_types table.now) (length blocks.now) (block_of blocks.now)) }
 {
     let root = block(blocks, 0);
@@ -45,7 +44,6 @@ fn add_templates(
     root: &[u8; 512],
     places: usize,
 ) -> Result<(), ImageFault>
-    requires few { count ≤ 32768 }
     requires places { places ≤ 16 }
     ensures { AnswersAs result (λ _. named.new.entries)
         (add_all (table_types table.now) count 0 named.old.entries (names_from (template_name root.now) 0 places)) }
@@ -64,7 +62,6 @@ fn add_roots(
     root: &[u8; 512],
     slots: usize,
 ) -> Result<(), ImageFault>
-    requires few { count ≤ 32768 }
     requires slots { slots ≤ 32 }
     ensures { AnswersAs result (λ _. named.new.entries) (add_all (table_types table.now) count 0 named.old.entries (names_from (slot_name root.now) 0 slots)) }
 {
@@ -84,7 +81,6 @@ fn add_some(
     ty: u32,
     fs: Option<u8>,
 ) -> Result<(), ImageFault>
-    requires { count ≤ 32768 }
     ensures { AnswersAs result (λ _. named.new.entries)
         (add_all (table_types table.now) count 0 named.old.entries (option_to_list (some_named fs (block, ty)))) }
 {

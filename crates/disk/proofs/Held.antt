@@ -50,23 +50,23 @@ module _ (image : List ℕ) (places : List (Option MemoryLane)) (n : ℕ) (long 
   pub fresh-all : length image ≡ 512 * n → AreFreshLanes image places
   fresh-all whole = record { whole = omega arith; each = λ k lt. each k (omega arith) }
 
--- fresh lanes over the last blocks of an image, in places that are filled from the last one down
-module _ (image : List ℕ) (places : List (Option MemoryLane)) (n done b : ℕ) (at : b + done + 1 ≡ n) (count : length places ≡ n)
+-- lanes of the last blocks, in places that are filled from the last one down
+module _ {L : Type 0} (lane_of : ℕ → L) (places : List (Option L)) (n done b : ℕ) (at : b + done + 1 ≡ n) (count : length places ≡ n)
     (empty : (k : ℕ) → k + done < n → slice_get places k ≡ Some None)
-    (each : (k : ℕ) → n ≤ k + done → k < n → slice_get places k ≡ Some (Some (fresh_lane k (block_of_image image k)))) where
-  abbrev filled : List (Option MemoryLane)
-  filled = slice_set places b (Some (fresh_lane b (block_of_image image b)))
+    (each : (k : ℕ) → n ≤ k + done → k < n → slice_get places k ≡ Some (Some (lane_of k))) where
+  abbrev filled : List (Option L)
+  filled = slice_set places b (Some (lane_of b))
 
   pub filled-count : length filled ≡ n
-  filled-count = length-set places b (Some (fresh_lane b (block_of_image image b))) ∙ count
+  filled-count = length-set places b (Some (lane_of b)) ∙ count
 
   pub filled-empty : (k : ℕ) → k + (done + 1) < n → slice_get filled k ≡ Some None
-  filled-empty k lt = slice_get-set_other places b k (Some (fresh_lane b (block_of_image image b))) (omega arith) ∙ empty k (omega arith)
+  filled-empty k lt = slice_get-set_other places b k (Some (lane_of b)) (omega arith) ∙ empty k (omega arith)
 
-  pub filled-each : (k : ℕ) → n ≤ k + (done + 1) → k < n → slice_get filled k ≡ Some (Some (fresh_lane k (block_of_image image k)))
+  pub filled-each : (k : ℕ) → n ≤ k + (done + 1) → k < n → slice_get filled k ≡ Some (Some (lane_of k))
   filled-each k past lt = elim (cases_eq k b) [
     | inl same ↦
         ap (slice_get filled) same
-        ∙ (slice_get-set_same places b (Some (fresh_lane b (block_of_image image b))) (omega arith) ∙ ap (λ j. Some (Some (fresh_lane j (block_of_image image j)))) (sym same))
-    | inr other ↦ slice_get-set_other places b k (Some (fresh_lane b (block_of_image image b))) other ∙ each k (omega arith) lt
+        ∙ (slice_get-set_same places b (Some (lane_of b)) (omega arith) ∙ ap (λ j. Some (Some (lane_of j))) (sym same))
+    | inr other ↦ slice_get-set_other places b k (Some (lane_of b)) other ∙ each k (omega arith) lt
   ]

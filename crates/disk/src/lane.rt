@@ -4,6 +4,9 @@ ghost use Rattle.disk.specs.Lanes.{CountsOne, LeavesNoMore, LeavesOnly, LeavesAl
 /// How many bytes a block has.
 pub const BLOCK_LEN: usize = 512;
 
+/// The greatest number of blocks of a disk.
+pub const MAX_BLOCKS: u32 = 1_048_576;
+
 /// The device failed to do what it was asked.
 #[derive(Clone, Copy, Debug, PartialEq, Eq)]
 pub struct DeviceFault;

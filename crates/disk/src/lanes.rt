@@ -96,6 +96,17 @@ impl<L: Lane> Lanes<L> {
         }
     }
 
+    /// Puts a lane into the place of its number, which is empty.
+    pub fn put(&mut self, lane: L)
+        requires { slice_get self.old (L.number_of lane) ≡ Some None }
+        ensures { self.new ≡ slice_set self.old (L.number_of lane) (Some lane) }
+    {
+        match self.give(lane) {
+            Ok(()) => {}
+            Err(_lane) => unreachable!(),
+        }
+    }
+
     /// The lane of a block for looking; `None` where its place is empty.
     pub fn lane(&self, block: u32) -> Option<&L>
         requires { block < length self.now }

@@ -367,21 +367,10 @@ pub fn lanes_from<A: Allocator + Copy>(
     for done in 0..blocks {
         let block = blocks - 1 - done;
         let lane = MemLane::new(alloc, rooms, block, block_of(&image, block))?;
-        put_in_place(&mut lanes, lane);
+        lanes.put(lane);
         give_back(&mut image, block as usize);
     }
     Ok(lanes)
-}
-
-/// Puts a lane into its empty place.
-fn put_in_place<A: Allocator>(lanes: &mut Lanes<MemLane<A>>, lane: MemLane<A>)
-    requires { slice_get lanes.old lane.number ≡ Some None }
-    ensures { lanes.new ≡ slice_set lanes.old lane.number (Some lane) }
-{
-    match lanes.give(lane) {
-        Ok(()) => {}
-        Err(_lane) => unreachable!(),
-    }
 }
 
 /// Keeps the bytes of so many blocks, and gives memory back now and then.

@@ -20,8 +20,8 @@ pub enum FileFault {
     /// A device, a pipe or the like has the name. Of a folder the system answers an error of its own.
     #[error("this is no regular file")]
     NotAFile,
-    /// The file is not 32 to 32,768 blocks of 512 bytes long. It has so many bytes.
-    #[error("a file of {0} bytes is no disk: a disk has 32 to 32768 blocks of 512 bytes")]
+    /// The file is not 32 to 1,048,576 blocks of 512 bytes long. It has so many bytes.
+    #[error("a file of {0} bytes is no disk: a disk has 32 to 1048576 blocks of 512 bytes")]
     BadLength(u64),
     /// The system answered this error.
     #[error("{0}")]

@@ -6,8 +6,8 @@
 //! does. So these are to be read, and not proved:
 //!
 //! - in `found_block`, that a `FoundBlock` is made only where the file brought all of its bytes from the place of the block of its number,
-//!   or took all of them there; and that a `WrittenImage` is made only where the file took the whole image, each block in its own place,
-//!   with block 0 last, after a sync of the others;
+//!   or took all of them there; that a `FoundImage` is made only where the file brought or took the whole image, each byte at its own
+//!   place; and that an image which is made is written with block 0 last, after a sync of the others, and with zeros behind its first bytes;
 //! - in `shared_file`, that each read of a block asks the file; that what is found is used before the block is written again; that a
 //!   `GoodSync` is made only where the sync of that number was good, or the one by which the file was opened; and that the number which
 //!   a write is given is that of a sync which begins after it;
@@ -33,7 +33,7 @@ mod shared_file;
 
 pub use fault::FileFault;
 pub use lane::FileLane;
-pub use opening::{FileDisk, MAX_BLOCKS, MIN_BLOCKS, SystemFault};
+pub use opening::{FileDisk, FileImage, MIN_BLOCKS, SystemFault};
 
 #[cfg(test)]
 mod tests;

@@ -1,13 +1,15 @@
 // A file as a disk: made or opened, and locked.
 ghost use Rattle.std.specs.Prelude.{◌≡◌, ◌≤◌, ◌*◌, ◌/◌, ◌%◌, length, replicate, IfOk, IfSome, IsSome};
+ghost use Rattle.xn_model.specs.Images.{most_blocks};
 ghost use Rattle.disk.specs.Images.{HoldsBytes};
-ghost use Rattle.file_disk.specs.Opened.{AreOpened};
+ghost use Rattle.file_disk.specs.Opened.{AreOpened, IsDiskImage};
 
 use crate::fault::FileFault;
-use crate::found_block::WrittenImage;
+use crate::found_block::{FoundImage, write_blocks};
 use crate::lane::FileLane;
-use crate::lanes::{Shared, found_lanes, share, written_lanes};
-use disk::{BLOCK_LEN, Lanes};
+use crate::lanes::{Shared, lanes_of, share};
+use crate::shared_file::GoodSync;
+use disk::{BLOCK_LEN, Lanes, MAX_BLOCKS};
 use std::alloc::{AllocError, Global};
 use std::fs::{File, Files, Metadata, OpenOptions, TryLockError};
 use std::marker::Model;
@@ -19,10 +21,7 @@ use system_files::{Access, is_same, open_locked};
 /// The fewest blocks of a disk.
 pub const MIN_BLOCKS: u32 = 32;
 
-/// The most blocks of a disk.
-pub const MAX_BLOCKS: u32 = 32_768;
-
-/// An open file, of 32 to 32,768 blocks, with a lane for each, all at home. Nobody else can open it as a disk until the last
+/// An open file, of 32 to 1,048,576 blocks, with a lane for each, all at home. Nobody else can open it as a disk until the last
 /// lane is dropped.
 #[derive(Drop)]
 pub struct FileDisk {
@@ -52,6 +51,72 @@ impl Model for FileDisk {
     ghost view = { λ a. a.lanes };
 }
 
+/// An open file, of 32 to 1,048,576 blocks, with all its bytes in memory. Nobody else can open it as a disk while it is there.
+#[derive(Drop)]
+pub struct FileImage {
+    file: Shared,
+    opened: GoodSync,
+    image: FoundImage,
+}
+
+impl Model for FileImage {
+    ghost use Rattle.std.specs.Prelude.{List, ℕ};
+    ghost use Rattle.file_disk.specs.Opened.{IsDiskImage};
+
+    ghost Value = { List ℕ };
+
+    ghost view = { λ a. a.image.bytes.items };
+
+    ghost invariant = { λ a. IsDiskImage a.image.bytes.items };
+}
+
+impl FileImage {
+    /// Opens and locks a file, settles what the system still holds of it, and reads each block once, a megabyte at a time. `NotThere` comes
+    /// where nothing has the name, `InUse` at once where another handle has the lock, `NotAFile` and `BadLength` where it can be no disk. The
+    /// file is the one that had the name once its lock was taken.
+    pub fn open<R: Files<File = File>>(
+        rt: &R,
+        alloc: Global,
+        path: &str,
+    ) -> Result<FileImage, FileFault> {
+        open_as(rt, alloc, path, Access::Written)
+    }
+
+    /// Opens a file as `open`, but to look at it alone: it need not be one that may be written, others that look may have it open
+    /// too, and `InUse` comes where somebody has it open to change it. The system refuses each write to such a file.
+    pub fn open_to_read<R: Files<File = File>>(
+        rt: &R,
+        alloc: Global,
+        path: &str,
+    ) -> Result<FileImage, FileFault> {
+        open_as(rt, alloc, path, Access::Shared)
+    }
+
+    /// Its bytes, block after block.
+    pub fn bytes(&self) -> &[u8]
+        ensures bytes { result.now ≡ self.now }
+        ensures disk { IsDiskImage self.now }
+    {
+        self.image.bytes()
+    }
+
+    /// A disk of it, with a lane for each block: they take the memory of the bytes over, which never stand twice.
+    pub fn into_disk(self, alloc: Global) -> Result<FileDisk, FileFault>
+        ensures opened { IfOk result (λ disk. AreOpened (length self / 512) disk) }
+        ensures disk { IsDiskImage self }
+        ensures image { IfOk result (λ disk. HoldsBytes (λ lane. lane.bytes) disk self) }
+    {
+        let FileImage {
+            file,
+            opened,
+            image,
+        } = self;
+        let blocks = (image.bytes().len() / BLOCK_LEN) as u32;
+        let lanes = lanes_of(alloc, &file, &opened, image, blocks)?;
+        Ok(FileDisk { lanes, file })
+    }
+}
+
 impl FileDisk {
     /// Makes a file of so many blocks of zeros, as `create_with`.
     pub fn create<R: Files<File = File>>(
@@ -61,7 +126,7 @@ impl FileDisk {
         blocks: u32,
     ) -> Result<FileDisk, FileFault>
         requires least { 32 ≤ blocks }
-        requires most { blocks ≤ 32768 }
+        requires most { blocks ≤ most_blocks }
         ensures opened { IfOk result (λ disk. AreOpened blocks disk) }
         ensures zeros { IfOk result (λ disk. HoldsBytes (λ lane. lane.bytes) disk (replicate (512 * blocks) 0)) }
     {
@@ -81,7 +146,7 @@ impl FileDisk {
     ) -> Result<FileDisk, FileFault>
         requires whole { length image.now % 512 ≡ 0 }
         requires least { 512 * 32 ≤ length image.now }
-        requires most { length image.now ≤ 512 * 32768 }
+        requires most { length image.now ≤ 512 * most_blocks }
         ensures opened { IfOk result (λ disk. AreOpened (length image.now / 512) disk) }
         ensures image { IfOk result (λ disk. HoldsBytes (λ lane. lane.bytes) disk image.now) }
     {
@@ -94,9 +159,7 @@ impl FileDisk {
         filled
     }
 
-    /// Opens and locks a file, settles what the system still holds of it, and reads each block. `NotThere` comes where nothing
-    /// has the name, `InUse` at once where another handle has the lock, `NotAFile` and `BadLength` where it can be no disk. The
-    /// file is the one that had the name once its lock was taken.
+    /// Opens a file as `FileImage::open` does, with a lane for each block.
     pub fn open<R: Files<File = File>>(
         rt: &R,
         alloc: Global,
@@ -104,14 +167,13 @@ impl FileDisk {
     ) -> Result<FileDisk, FileFault>
         ensures opened { IfOk result (λ disk. AreOpened (length disk) disk) }
         ensures least { IfOk result (λ disk. 32 ≤ length disk) }
-        ensures most { IfOk result (λ disk. length disk ≤ 32768) }
+        ensures most { IfOk result (λ disk. length disk ≤ most_blocks) }
     {
-        open_as(rt, alloc, path, Access::Written)
+        FileImage::open(rt, alloc, path)?.into_disk(alloc)
     }
 
-    /// Opens a file as `open`, but to look at it alone: it need not be one that may be written, others that look may have it open
-    /// too, and `InUse` comes where somebody has it open to change it. The system refuses each write to such a file, so a lane's
-    /// write is a fault, and its sync, where no write was, is none.
+    /// Opens a file as `FileImage::open_to_read` does, with a lane for each block: a write of it is a fault, and its sync, where no write
+    /// was, is none.
     pub fn open_to_read<R: Files<File = File>>(
         rt: &R,
         alloc: Global,
@@ -119,9 +181,32 @@ impl FileDisk {
     ) -> Result<FileDisk, FileFault>
         ensures opened { IfOk result (λ disk. AreOpened (length disk) disk) }
         ensures least { IfOk result (λ disk. 32 ≤ length disk) }
-        ensures most { IfOk result (λ disk. length disk ≤ 32768) }
+        ensures most { IfOk result (λ disk. length disk ≤ most_blocks) }
     {
-        open_as(rt, alloc, path, Access::Shared)
+        FileImage::open_to_read(rt, alloc, path)?.into_disk(alloc)
+    }
+
+    /// Makes a file of so many blocks, the first of these bytes and all others of zeros, as `create_with` does, and without their lanes: of the
+    /// zeros no more than a megabyte is in memory.
+    pub fn write_fresh<R: Files<File = File>>(
+        rt: &R,
+        alloc: Global,
+        path: &str,
+        head: &[u8],
+        blocks: u32,
+    ) -> Result<(), FileFault>
+        requires some { 512 ≤ length head.now }
+        requires within { length head.now ≤ 512 * blocks }
+        requires least { 32 ≤ blocks }
+        requires most { blocks ≤ most_blocks }
+    {
+        let file = make(rt, path)?;
+        let made = file.metadata()?;
+        let filled = fill_fresh(rt, alloc, path, &file, head, blocks);
+        if filled.is_err() {
+            remove_made(rt, path, &made);
+        }
+        filled
     }
 
     /// How many blocks it has.
@@ -166,16 +251,16 @@ fn open_as<R: Files<File = File>>(
     alloc: Global,
     path: &str,
     access: Access,
-) -> Result<FileDisk, FileFault>
-    ensures opened { IfOk result (λ disk. AreOpened (length disk) disk) }
-    ensures least { IfOk result (λ disk. 32 ≤ length disk) }
-    ensures most { IfOk result (λ disk. length disk ≤ 32768) }
-{
+) -> Result<FileImage, FileFault> {
     let file = open_locked(rt, path, access)?;
     let blocks = blocks_of(&file)?;
     let (file, opened) = share(alloc, file)?;
-    let lanes = found_lanes(alloc, &file, &opened, blocks)?;
-    Ok(FileDisk { lanes, file })
+    let image = file.find_image(alloc, blocks)?;
+    Ok(FileImage {
+        file,
+        opened,
+        image,
+    })
 }
 
 /// Locks a file that was just made, writes these bytes and settles them and its name.
@@ -188,17 +273,38 @@ fn fill<R: Files<File = File>>(
 ) -> Result<FileDisk, FileFault>
     requires whole { length image.now % 512 ≡ 0 }
     requires least { 512 * 32 ≤ length image.now }
-    requires most { length image.now ≤ 512 * 32768 }
+    requires most { length image.now ≤ 512 * most_blocks }
     ensures opened { IfOk result (λ disk. AreOpened (length image.now / 512) disk) }
     ensures image { IfOk result (λ disk. HoldsBytes (λ lane. lane.bytes) disk image.now) }
 {
     lock(&file)?;
     settle_name(rt, path)?;
-    let written = WrittenImage::write(&file, image)?;
+    let image = FoundImage::write(alloc, &file, image)?;
     let (file, opened) = share(alloc, file)?;
-    let blocks = (image.len() / BLOCK_LEN) as u32;
-    let lanes = written_lanes(alloc, &file, &opened, &written, blocks)?;
-    Ok(FileDisk { lanes, file })
+    FileImage {
+        file,
+        opened,
+        image,
+    }
+    .into_disk(alloc)
+}
+
+/// Locks a file that was just made, writes these bytes and zeros behind them, and settles them and its name.
+fn fill_fresh<R: Files<File = File>>(
+    rt: &R,
+    alloc: Global,
+    path: &str,
+    file: &File,
+    head: &[u8],
+    blocks: u32,
+) -> Result<(), FileFault>
+    requires { 512 ≤ length head.now }
+{
+    lock(file)?;
+    settle_name(rt, path)?;
+    write_blocks(alloc, file, head, BLOCK_LEN * blocks as usize)?;
+    file.sync_all()?;
+    Ok(())
 }
 
 /// Removes a file that was made, while the path leads to it. Where that fails it stays.
@@ -222,7 +328,7 @@ fn lock(file: &File) -> Result<(), FileFault> {
 /// How many blocks a file has, if it can be a disk.
 fn blocks_of(file: &File) -> Result<u32, FileFault>
     ensures least { IfOk result (λ blocks. 32 ≤ blocks) }
-    ensures most { IfOk result (λ blocks. blocks ≤ 32768) }
+    ensures most { IfOk result (λ blocks. blocks ≤ most_blocks) }
 {
     let found = file.metadata()?;
     if !found.is_file() {
@@ -236,8 +342,8 @@ fn blocks_of(file: &File) -> Result<u32, FileFault>
 
 /// How many blocks a disk of so many bytes has; `None` where no disk has so many.
 fn blocks_in(length: u64) -> Option<u32>
-    ensures some { IfSome result (λ blocks. (length ≡ 512 * blocks) × (32 ≤ blocks) × (blocks ≤ 32768)) }
-    ensures all { length % 512 ≡ 0 → 512 * 32 ≤ length → length ≤ 512 * 32768 → IsSome result }
+    ensures some { IfSome result (λ blocks. (length ≡ 512 * blocks) × (32 ≤ blocks) × (blocks ≤ most_blocks)) }
+    ensures all { length % 512 ≡ 0 → 512 * 32 ≤ length → length ≤ 512 * most_blocks → IsSome result }
 {
     let blocks = length / BLOCK_LEN as u64;
     if length % BLOCK_LEN as u64 != 0

@@ -3,11 +3,11 @@
 // No clause can say what an atomic holds, nor when a sync ran. So two things about this module are to be read, and not proved: a
 // `GoodSync` of a number is made only where the sync of that number was good, or the one by which the file was opened; and the number
 // that a write is given is that of a sync that begins after the write.
-ghost use Rattle.std.specs.Prelude.{◌≡◌, ◌≤◌, ◌⊎◌, length, false, IsTrue, IfSome, IfOk, OnOk, OnErr};
-ghost use Rattle.file_disk.specs.File.{fresh_kept, with_found, with_given};
+ghost use Rattle.std.specs.Prelude.{◌≡◌, ◌≤◌, ◌*◌, ◌⊎◌, length, false, IsTrue, IfSome, IfOk, OnOk, OnErr};
+ghost use Rattle.file_disk.specs.File.{with_found, with_given};
 
 use crate::fault::FileFault;
-use crate::found_block::FoundBlock;
+use crate::found_block::{FoundBlock, FoundImage};
 use crate::kept_block::KeptBlock;
 use disk::BLOCK_LEN;
 use std::alloc::Global;
@@ -92,18 +92,11 @@ impl SharedFile {
         found
     }
 
-    /// A block as the file has it, which was settled when it was opened.
-    pub(crate) fn open_block(
-        &self,
-        alloc: Global,
-        number: u32,
-        opened: &GoodSync,
-    ) -> Result<KeptBlock, FileFault>
-        ensures kept { IfOk result (λ block. block ≡ fresh_kept number block.bytes) }
-        ensures long { IfOk result (λ block. length block.bytes ≡ 512) }
+    /// Reads all blocks.
+    pub(crate) fn find_image(&self, alloc: Global, blocks: u32) -> Result<FoundImage, FileFault>
+        ensures { IfOk result (λ found. length found.bytes.items ≡ 512 * blocks) }
     {
-        let found = self.find_block(number)?;
-        Ok(KeptBlock::new(alloc, &found, opened)?)
+        FoundImage::read(alloc, &self.file, blocks)
     }
 
     /// Reads a block. Answers whether the file brings the bytes that the block has: then `into` has them, and the block is in no doubt.

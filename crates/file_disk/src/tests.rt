@@ -1,8 +1,9 @@
 // What no clause says: that the bytes are in the file.
 
 use crate::lane::FileLane;
+use crate::lanes::lane_of;
 use crate::shared_file::SharedFile;
-use crate::{FileDisk, FileFault};
+use crate::{FileDisk, FileFault, FileImage};
 use disk::Lane;
 use std::fs::{File, OpenOptions};
 use std::os::unix::fs::FileExt;
@@ -29,6 +30,34 @@ fn keeps_what_is_written(rt: HostRuntime) -> Result<(), Fail> {
     lanes.take(6).ok_or("a lane")?.read(&mut bytes)?;
     assert_eq!(rt; bytes, [0; 512]);
     fs::remove_file(&rt, "kept.disk")?;
+    Ok(())
+}
+
+#[test]
+fn many_blocks_are_read_in_their_places(rt: HostRuntime) -> Result<(), Fail> {
+    let _ = fs::remove_file(&rt, "fresh.disk");
+    let head = [5; 1024];
+    // Two pieces of 2,048 blocks, and a part of one.
+    FileDisk::write_fresh(&rt, rt.alloc(), "fresh.disk", &head, 4_099)?;
+    let again = FileDisk::write_fresh(&rt, rt.alloc(), "fresh.disk", &head, 4_099);
+    assert!(rt; matches!(again, Err(FileFault::AlreadyThere)));
+    assert_eq!(rt; fs::metadata(&rt, "fresh.disk")?.len(), 512 * 4_099);
+    let other = OpenOptions::new().write(true).open(&rt, "fresh.disk")?;
+    other.write_all_at(b"x", 512 * 2_048)?;
+    other.write_all_at(b"y", 512 * 4_099 - 1)?;
+    let image = FileImage::open(&rt, rt.alloc(), "fresh.disk")?;
+    assert!(rt; image.bytes()[..1024].iter().all(|byte| *byte == 5));
+    assert!(rt; image.bytes()[1024..1024 * 1024].iter().all(|byte| *byte == 0));
+    assert_eq!(rt; image.bytes()[512 * 2_048], b'x');
+    let mut lanes = image.into_disk(rt.alloc())?.into_lanes();
+    let mut bytes = [1; 512];
+    lanes.take(4_098).ok_or("a lane")?.read(&mut bytes)?;
+    assert_eq!(rt; bytes[511], b'y');
+    lanes.take(2_048).ok_or("a lane")?.read(&mut bytes)?;
+    assert_eq!(rt; bytes[0], b'x');
+    lanes.take(4_097).ok_or("a lane")?.read(&mut bytes)?;
+    assert_eq!(rt; bytes, [0; 512]);
+    fs::remove_file(&rt, "fresh.disk")?;
     Ok(())
 }
 
@@ -91,9 +120,9 @@ fn refuses_what_is_no_disk(rt: HostRuntime) -> Result<(), Fail> {
     file.set_len(512 * 31)?;
     let short = FileDisk::open(&rt, rt.alloc(), "odd.disk");
     assert!(rt; matches!(short, Err(FileFault::BadLength(15_872))));
-    file.set_len(512 * 32_769)?;
+    file.set_len(512 * 1_048_577)?;
     let long = FileDisk::open(&rt, rt.alloc(), "odd.disk");
-    assert!(rt; matches!(long, Err(FileFault::BadLength(16_777_728))));
+    assert!(rt; matches!(long, Err(FileFault::BadLength(536_871_424))));
     let folder = FileDisk::open(&rt, rt.alloc(), ".");
     assert!(rt; matches!(folder, Err(FileFault::System(_))));
     fs::remove_file(&rt, "odd.disk")?;
@@ -107,8 +136,8 @@ fn a_write_that_fails_is_settled(rt: HostRuntime) -> Result<(), Fail> {
     drop(FileDisk::create(&rt, rt.alloc(), "failing.disk", 32)?);
     let (file, opened) = SharedFile::new(File::open(&rt, "failing.disk")?)?;
     let file = Arc::new(rt.alloc(), file).ok().ok_or("memory")?;
-    let block = file.open_block(rt.alloc(), 3, &opened)?;
-    let mut lane = FileLane::new(file, block);
+    let image = file.find_image(rt.alloc(), 32)?;
+    let mut lane = lane_of(rt.alloc(), &file, &opened, &image.block(3))?;
     let mut bytes = [1; 512];
     assert!(rt; lane.write(&[8; 512]).is_err());
     lane.read(&mut bytes)?;
@@ -146,12 +175,10 @@ fn a_failed_sync_is_for_good(rt: HostRuntime) -> Result<(), Fail> {
     let file = Arc::new(rt.alloc(), SharedFile::never_synced(device))
         .ok()
         .ok_or("memory")?;
-    let block = file.open_block(rt.alloc(), 1, &opened)?;
-    let mut one = FileLane::new(Arc::try_clone(&file)?, block);
-    let block = file.open_block(rt.alloc(), 2, &opened)?;
-    let mut two = FileLane::new(Arc::try_clone(&file)?, block);
-    let block = file.open_block(rt.alloc(), 3, &opened)?;
-    let mut three = FileLane::new(file, block);
+    let image = file.find_image(rt.alloc(), 4)?;
+    let mut one = lane_of(rt.alloc(), &file, &opened, &image.block(1))?;
+    let mut two = lane_of(rt.alloc(), &file, &opened, &image.block(2))?;
+    let mut three = lane_of(rt.alloc(), &file, &opened, &image.block(3))?;
     one.write(&[0; 512])?;
     assert!(rt; one.sync().is_err());
     assert!(rt; one.sync().is_err());

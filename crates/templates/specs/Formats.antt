@@ -34,10 +34,14 @@ template_found i = record { block = 1 + i; ty = 1; owner = Some 0; fs = None }
 abbrev pub fresh_found : ℕ → List Found
 fresh_found n = root_found ∷ map template_found (range_with_len 0 n)
 
+-- the most blocks of a disk whose image is made whole in memory, or held there by a world
+abbrev pub most_formatted : ℕ
+most_formatted = 32768
+
 -- the first fault of such a disk: its count of blocks, then its count of templates
 abbrev pub format_fault : ℕ → ℕ → Option FormatFault
 format_fault count n =
-    if nat_le 32 count && nat_le count 32768
+    if nat_le 32 count && nat_le count most_formatted
     then (if nat_le n 16 then None else Some TooManyTemplates)
     else Some BadCount
 

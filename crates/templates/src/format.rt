@@ -2,12 +2,12 @@
 
 ghost use Rattle.std.specs.Prelude.{◌≡◌, ◌≤◌, [], length, None, IfOk, OnOk, MatchResult};
 ghost use Rattle.std.specs.Vec.{vec_len};
-ghost use Rattle.templates.specs.Formats.{formatted, formatted_root, format_fault, IsFormatFault};
+ghost use Rattle.templates.specs.Formats.{formatted, formatted_root, format_fault, most_formatted, IsFormatFault};
 ghost use Rattle.xn_model.specs.Images.{joined};
 
 use crate::block::write_block;
 use crate::fault::FormatFault;
-use crate::root::{CATALOGUE_PLACES, MARK, MAX_BLOCKS, MIN_BLOCKS, number_bytes};
+use crate::root::{CATALOGUE_PLACES, MARK, MAX_FORMAT_BLOCKS, MIN_BLOCKS, number_bytes};
 use crate::template::Template;
 use std::alloc::{AllocError, Global};
 
@@ -30,7 +30,7 @@ pub fn format_image(
         × (image.items ≡ joined (formatted blocks templates.now)))
         (IsFormatFault blocks (length templates.now)) }
 {
-    if blocks < MIN_BLOCKS || blocks > MAX_BLOCKS {
+    if blocks < MIN_BLOCKS || blocks > MAX_FORMAT_BLOCKS {
         return Err(FormatFault::BadCount);
     }
     if templates.len() > CATALOGUE_PLACES {
@@ -42,7 +42,7 @@ pub fn format_image(
 /// The image of so many blocks with these templates. All memory is taken at the start.
 fn fresh_image(alloc: Global, blocks: u32, templates: &[Template]) -> Result<Vec<u8>, AllocError>
     requires least { 32 ≤ blocks }
-    requires greatest { blocks ≤ 32768 }
+    requires greatest { blocks ≤ most_formatted }
     requires few { length templates.now ≤ 16 }
     ensures { IfOk result (λ image. image.items ≡ joined (formatted blocks templates.now)) }
 {

@@ -11,10 +11,11 @@ ghost use Rattle.templates.specs.RootFields.{has_mark, slot_bytes};
 use byteorder::{ByteOrder, LittleEndian};
 use udf_run::Pair;
 
-/// The least and the greatest number of blocks that a disk has.
+/// The least number of blocks that a disk has.
 pub const MIN_BLOCKS: u32 = 32;
 
-pub const MAX_BLOCKS: u32 = 32_768;
+/// The greatest number of blocks of a disk whose image is made whole in memory, or held there by a world.
+pub const MAX_FORMAT_BLOCKS: u32 = 32_768;
 
 /// How many templates a catalogue has room for.
 pub const CATALOGUE_PLACES: usize = 16;

@@ -4,6 +4,7 @@ use Rattle.std.specs.Prelude.{Contains, option_map, ◌==◌, slice_set}
 use Rattle.std.proofs.lemmas.Bool.{cases_eq, eq-eqb, ne_eqb, and_parts, not-false, eqb-true}
 use Rattle.std.proofs.lemmas.Option.{same_Some, none-some}
 use Rattle.xn_model.specs.Types.{Types, claims, named_once}
+use Rattle.xn_model.specs.Images.{most_blocks}
 use Rattle.xn_model.specs.Root.{slot, with_slot}
 use Rattle.xn_model.specs.Lives.{BlockState, Life, Lives, StoreState, life_at, bytes_of, current, is_fresh, accepted_at, lowest_free}
 use Rattle.xn_model.specs.declared.refusal.Refusal.{Refusal}
@@ -143,7 +144,7 @@ module _ (T : Types) (state new : StoreState) (h : IsConsistent T state) (hs : H
   small_life : (b : ℕ) (l : Life) → life_at state.lives b ≡ Some l → (b < 2 ^ 32) × (l.ty < 2 ^ 32)
   small_life b l alive =
       let lt : b < length state.lives = in_range T state h b l alive in
-      let top : length state.lives ≤ 32768 = h.size.1 in
+      let top : length state.lives ≤ most_blocks = h.size.1 in
       let low = h.built_ins.few l.ty (h.linked b l alive).installed in
       (omega arith, omega arith)
 

@@ -5,6 +5,7 @@ use Rattle.std.proofs.lemmas.Bool.{cases_eq, not-false, eqb-false, eqb-true}
 use Rattle.std.proofs.lemmas.Option.{same_Some, none-some}
 use Rattle.std.proofs.lemmas.List.Elements.{Contains-append_right}
 use Rattle.xn_model.specs.Types.{Types, fits}
+use Rattle.xn_model.specs.Images.{most_blocks}
 use Rattle.xn_model.specs.Root.{pointer, has_type, header, marked, slot, with_slot, templates_of, roots_of, owned_by_root}
 use Rattle.xn_model.specs.Lives.{BlockState, Fresh, Owned, Life, life_at, states, newest, bytes_of, is_fresh, is_dropped, chain_end, StoreState}
 use Rattle.xn_model.specs.Results.{RootTaken, NotFresh, TooManyPending, Exhausted, NotOwned, NotEmpty}
@@ -73,7 +74,7 @@ module _ (T : Types) (state : StoreState) (h : IsConsistent T state) where
   pub small_life : (b : ℕ) (l : Life) → life_at state.lives b ≡ Some l → (b < 2 ^ 32) × (l.ty < 2 ^ 32)
   small_life b l alive =
       let lt : b < length state.lives = in_range T state h b l alive in
-      let top : length state.lives ≤ 32768 = h.size.1 in
+      let top : length state.lives ≤ most_blocks = h.size.1 in
       let low = h.built_ins.few l.ty (h.linked b l alive).installed in
       (omega arith, omega arith)
 

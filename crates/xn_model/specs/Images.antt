@@ -39,8 +39,12 @@ pub record HasOneOwner (T : Types) (count : ℕ) (content : ℕ → List ℕ) (c
   pub owns : Owns T count content owner place c
   pub only : (b i : ℕ) → Owns T count content b i c → (b ≡ owner) × (i ≡ place)
 
+-- the most blocks of a disk
+abbrev pub most_blocks : ℕ
+most_blocks = 1048576
+
 abbrev pub IsDiskSize : ℕ → Type 0
-IsDiskSize count = (32 ≤ count) × (count ≤ 32768)
+IsDiskSize count = (32 ≤ count) × (count ≤ most_blocks)
 
 pub record IsSound (T : Types) (count : ℕ) (content : ℕ → List ℕ) : Type 0 where
   pub size : IsDiskSize count

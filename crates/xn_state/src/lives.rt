@@ -9,7 +9,7 @@ ghost use Rattle.xn_model.specs.Lives.{owned_after};
 ghost use Rattle.xn_model.specs.Results.{result_map};
 ghost use Rattle.xn_model.specs.Calls.{is_ready, is_tainted, life_bytes, life_pending, new_life, own_place, patched, pending_in};
 ghost use Rattle.xn_model.specs.PendingIn.{newest_entry};
-ghost use Rattle.xn_model.specs.Images.{blocks_in};
+ghost use Rattle.xn_model.specs.Images.{blocks_in, most_blocks};
 ghost use Rattle.block_cache.specs.Systems.{system_of};
 ghost use Rattle.block_cache.specs.Claims.{claimed_state};
 ghost use Rattle.block_cache.specs.NewBytes.{AreWithinLimits, new_bytes};
@@ -282,7 +282,7 @@ impl Lives {
         requires alive { IsTrue (is_some (life_at self.old block)) }
         requires room { life_pending (life_at self.old block) < 64 }
         requires few { IfSome fs (λ f. sum_by (pending_in f.number) self.old < 4096) }
-        requires size { length self.old ≤ 32768 }
+        requires size { length self.old ≤ most_blocks }
         requires claims { MayClaim self.old block adds.now drops.now }
         requires few_adds { length adds.now ≤ 128 }
         requires few_drops { length drops.now ≤ 128 }

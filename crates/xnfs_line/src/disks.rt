@@ -2,10 +2,10 @@
 
 use crate::fault::{Fault, Reason, reason_of};
 use crate::opened::Opened;
-use crash_check::{ImageFault, mount};
-use disk::{Lane, Lanes, MemDisk, MemLane, fresh_lanes};
+use crash_check::{ImageFault, mount, mount_known, state_of};
+use disk::{BLOCK_LEN, Lane, MAX_BLOCKS, MemDisk, MemLane, fresh_lanes};
 use ffs_format::templates;
-use file_disk::{FileDisk, FileLane};
+use file_disk::{FileDisk, FileImage, FileLane, MIN_BLOCKS};
 use std::alloc::{AllocError, Global};
 use std::fs::{File, Files};
 use std::thread::Threads;
@@ -13,8 +13,11 @@ use templates::format_image;
 use xn_kernel::Kernel;
 use xnfs_session::{FfsFault, Fs, Session, Stop, TestLane, has_volume};
 
-/// How many bytes the largest disk has.
-const GREATEST: usize = 16_777_216;
+/// Of so many blocks at most a fresh disk is made in memory: its volume stands in the first ones, and all others are zeros.
+const MOST_HELD: u32 = 1_024;
+
+/// The byte of block 0 at which the count of the disk's blocks stands, in four bytes.
+const COUNT_AT: usize = 4;
 
 /// How many file systems a disk has.
 const FILE_SYSTEMS: u8 = 32;
@@ -27,18 +30,18 @@ fn image_fault(fault: ImageFault) -> Fault {
     }
 }
 
-/// The bytes of a fresh disk of so many blocks, with an empty volume of a file system.
-fn fresh_image(
+/// The first bytes of a fresh disk of so many blocks, with an empty volume of a file system. Behind them are zeros alone.
+fn fresh_head(
     threads: &(impl Threads + Sync),
     alloc: Global,
     blocks: u32,
     fs: Fs,
 ) -> Result<Vec<u8>, Fault> {
     let templates = templates(alloc)?;
-    let Ok(image) = format_image(alloc, blocks, &templates) else {
+    let Ok(image) = format_image(alloc, blocks.min(MOST_HELD), &templates) else {
         return Err(Fault::NoMemory);
     };
-    if image.len() % 512 != 0 || image.len() > GREATEST {
+    if image.len() % BLOCK_LEN != 0 || image.len() > BLOCK_LEN * MAX_BLOCKS as usize {
         return Err(Fault::NoMemory);
     }
     let lanes = fresh_lanes(alloc, &image)?;
@@ -54,12 +57,23 @@ fn fresh_image(
         return Err(Fault::Flush(refusal));
     }
     match MemDisk::join(alloc, session.into_store().into_lanes()) {
-        Ok(disk) => Ok(Vec::from_slice(alloc, disk.bytes())?),
+        Ok(disk) => Ok(with_count(alloc, disk.bytes(), blocks)?),
         Err(_) => Err(Fault::NoMemory),
     }
 }
 
-/// `format`: makes a file that is a disk of so many blocks, 32 to 32,768, with an empty volume.
+/// The first bytes of a disk, with this count of blocks in block 0.
+fn with_count(alloc: Global, bytes: &[u8], blocks: u32) -> Result<Vec<u8>, AllocError> {
+    let mut head = Vec::from_slice(alloc, bytes)?;
+    for (place, byte) in blocks.to_le_bytes().iter().enumerate() {
+        if let Some(at) = head.get_mut(COUNT_AT + place) {
+            *at = *byte;
+        }
+    }
+    Ok(head)
+}
+
+/// `format`: makes a file that is a disk of so many blocks, 32 to 1,048,576, with an empty volume.
 pub fn format<R: Files<File = File>>(
     rt: &R,
     threads: &(impl Threads + Sync),
@@ -68,12 +82,14 @@ pub fn format<R: Files<File = File>>(
     blocks: u32,
     fs: Fs,
 ) -> Result<(), Fault> {
-    let bytes = fresh_image(threads, alloc, blocks, fs)?;
-    if bytes.len() != 512 * blocks as usize || !(32..=32768).contains(&blocks) {
+    let head = fresh_head(threads, alloc, blocks, fs)?;
+    if head.len() < BLOCK_LEN || head.len() > BLOCK_LEN * blocks as usize {
         return Err(Fault::NoMemory);
     }
-    let _disk = FileDisk::create_with(rt, alloc, image, &bytes)?;
-    Ok(())
+    if !(MIN_BLOCKS..=MAX_BLOCKS).contains(&blocks) {
+        return Err(Fault::NoMemory);
+    }
+    Ok(FileDisk::write_fresh(rt, alloc, image, &head, blocks)?)
 }
 
 /// Which file systems of a disk have a volume, as it is told.
@@ -101,17 +117,12 @@ fn told_volumes<L: Lane + Drop>(alloc: Global, kernel: &Kernel<L>) -> Result<Str
     }
 }
 
-/// The volume of a file system on the disk of these lanes.
-fn open_lanes<L: Lane + Drop>(
-    threads: &(impl Threads + Sync),
+/// The volume of a file system on the disk of this kernel.
+fn open_volume<L: Lane + Drop>(
     alloc: Global,
-    lanes: Lanes<L>,
+    kernel: Kernel<L>,
     fs: Fs,
 ) -> Result<Opened<Kernel<L>>, Fault> {
-    let kernel = match mount(threads, alloc, lanes, 1) {
-        Ok(kernel) => kernel,
-        Err((fault, _lanes)) => return Err(image_fault(fault)),
-    };
     if !has_volume(&kernel, fs) {
         let others = told_volumes(alloc, &kernel)?;
         let fs = fs.index() as u8;
@@ -137,7 +148,11 @@ pub fn open_for_tests<R: Files<File = File>>(
     let disk = FileDisk::open(rt, alloc, image)?;
     let system = disk.system_fault()?;
     let lanes = stop.lanes(alloc, disk.into_lanes(), is_synced)?;
-    let mut volume = open_lanes(threads, alloc, lanes, fs)?;
+    let kernel = match mount(threads, alloc, lanes, 1) {
+        Ok(kernel) => kernel,
+        Err((fault, _lanes)) => return Err(image_fault(fault)),
+    };
+    let mut volume = open_volume(alloc, kernel, fs)?;
     volume.set_system(system);
     Ok(volume)
 }
@@ -150,13 +165,19 @@ pub fn open<R: Files<File = File>>(
     image: &str,
     (fs, is_looking): (Fs, bool),
 ) -> Result<Opened<Kernel<FileLane>>, Fault> {
-    let disk = if is_looking {
-        FileDisk::open_to_read(rt, alloc, image)?
+    let image = if is_looking {
+        FileImage::open_to_read(rt, alloc, image)?
     } else {
-        FileDisk::open(rt, alloc, image)?
+        FileImage::open(rt, alloc, image)?
     };
+    let state = match state_of(threads, alloc, image.bytes()) {
+        Ok(state) => state,
+        Err(fault) => return Err(image_fault(fault)),
+    };
+    let disk = image.into_disk(alloc)?;
     let system = disk.system_fault()?;
-    let mut volume = open_lanes(threads, alloc, disk.into_lanes(), fs)?;
+    let kernel = mount_known(disk.into_lanes(), state, 1);
+    let mut volume = open_volume(alloc, kernel, fs)?;
     volume.set_system(system);
     Ok(volume)
 }

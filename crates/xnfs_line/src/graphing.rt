@@ -3,12 +3,10 @@
 use crate::fault::Fault;
 use crate::finding::fault_at;
 use crate::opened::Opened;
+use disk::MAX_BLOCKS;
 use std::alloc::Global;
 use std::io::Write;
 use xnfs_session::{FlushStore, Owner};
-
-/// A volume has fewer blocks.
-const MOST_BLOCKS: u32 = 32_768;
 
 /// What the blocks of a type are.
 fn kind(ty: u32) -> &'static str {
@@ -78,7 +76,7 @@ pub fn graph<S: FlushStore + Drop>(
         waiting.push(root)?;
     }
     print_owner(volume, &first, out)?;
-    for _ in 0..MOST_BLOCKS {
+    for _ in 0..MAX_BLOCKS {
         let Some(block) = waiting.pop() else {
             break;
         };

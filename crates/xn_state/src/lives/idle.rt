@@ -2,6 +2,7 @@
 
 ghost use Rattle.std.specs.Prelude.{◌≡◌, ◌≤◌, is_some, length};
 ghost use Rattle.std.specs.List.{list_any};
+ghost use Rattle.xn_model.specs.Images.{most_blocks};
 ghost use Rattle.xn_model.specs.Lives.{alive_and};
 ghost use Rattle.xn_model.specs.Worlds.{all_pending};
 
@@ -17,7 +18,7 @@ impl Lives {
 
     /// How many entries are pending, of all blocks and file systems.
     pub fn count_pending(&self) -> u32
-        requires { length self.now ≤ 32768 }
+        requires { length self.now ≤ most_blocks }
         ensures { result ≡ all_pending self.now }
     {
         self.cache.all_pending() as u32

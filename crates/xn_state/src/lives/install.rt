@@ -1,6 +1,7 @@
 // The lives of a store with one more template.
 
 ghost use Rattle.std.specs.Prelude.{◌≡◌, ℕ, ◌+◌, ◌^◌, ◌<◌, ◌≤◌, false, length, Some, IsTrue, OnOk, OnErr, is_some};
+ghost use Rattle.xn_model.specs.Images.{most_blocks};
 ghost use Rattle.xn_model.specs.Lives.{life_at, lowest_free};
 ghost use Rattle.xn_model.specs.Calls.{life_bytes, life_pending, patched};
 ghost use Rattle.dependencies.specs.Pending.{pends};
@@ -28,7 +29,7 @@ impl Lives {
         requires free { lowest_free self.old ≡ Some block }
         requires alive { IsTrue (is_some (life_at self.old 0)) }
         requires room { life_pending (life_at self.old 0) < 64 }
-        requires size { length self.old ≤ 32768 }
+        requires size { length self.old ≤ most_blocks }
         requires numbers { number + 1 < 2 ^ 64 }
         requires fresh { (n b : ℕ) → number ≤ n → pends n (life_at self.old b) ≡ false }
         requires undoes { patched root.now undo ≡ life_bytes (life_at self.old 0) }

@@ -58,4 +58,4 @@ overflow_add-visited g c =
     let t = c.in_ok-take_in.ensures in
     let here = slice_get_within c.loop-seen.named.entries c.loop-seen.visited t.0 t.1 in
     let unseen = unvisited T blocks (walk_from T blocks c.args.from c.args.named.now.entries) c.loop-seen.named.entries c.loop-seen.visited c.loop-seen.invariant.0 here in
-    omega (arith, unseen, c.requires.few)
+    omega (arith, unseen)

@@ -1,5 +1,6 @@
 use Rattle.std.proofs.Common.{◌≡◌, ◌∙◌, ℕ, ◌+◌, ◌-◌, ◌≤◌, length, ap, sym, subst, arith}
 use Rattle.std.specs.Prelude.{◌==◌, is_some, slice_index, slice_set, IsTrue}
+use Rattle.xn_model.specs.Images.{most_blocks}
 use Rattle.xn_model.specs.Lives.{Lives, dropped_after, life_at, owned_after}
 use Rattle.xn_model.specs.Calls.{life_bytes}
 use Rattle.block_cache.specs.Claims.{claimed_state}
@@ -24,7 +25,7 @@ change-requires-clause-owned c =
 pub change-requires-clause-few : goal.change-requires-clause-few
 change-requires-clause-few c =
     let alive = subst (λ (xs : Lives). IsTrue (is_some (life_at xs c.args.block))) (sym c.self.view_is) c.requires.alive in
-    let long = subst (λ (xs : Lives). length xs ≤ 32768) (sym c.self.view_is) c.requires.size in
+    let long = subst (λ (xs : Lives). length xs ≤ most_blocks) (sym c.self.view_is) c.requires.size in
     let owned = c.self.invariant.0.each c.args.block (alive_place c.self.inside.cache c.args.block alive) in
     omega (arith, long, owned, few_owned c.self.inside.cache c.args.block, c.requires.few_adds)
 
