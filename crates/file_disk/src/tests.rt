@@ -47,7 +47,11 @@ fn many_blocks_are_read_in_their_places(rt: HostRuntime) -> Result<(), Fail> {
     other.write_all_at(b"y", 512 * 4_099 - 1)?;
     let image = FileImage::open(&rt, rt.alloc(), "fresh.disk")?;
     assert!(rt; image.bytes()[..1024].iter().all(|byte| *byte == 5));
-    assert!(rt; image.bytes()[1024..1024 * 1024].iter().all(|byte| *byte == 0));
+    assert!(rt;
+        image.bytes()[1024..1024 * 1024]
+            .iter()
+            .all(|byte| *byte == 0)
+    );
     assert_eq!(rt; image.bytes()[512 * 2_048], b'x');
     let mut lanes = image.into_disk(rt.alloc())?.into_lanes();
     let mut bytes = [1; 512];

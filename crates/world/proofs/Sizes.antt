@@ -4,6 +4,7 @@ use Rattle.std.specs.Prelude.{is_some}
 use Rattle.std.proofs.lemmas.Bool.{false≢true}
 use Rattle.std.proofs.lemmas.Option.{same_Some, none-some}
 use Rattle.disk.specs.Mem.{MemoryLane}
+use Rattle.xn_model.specs.Images.{most_blocks}
 use Rattle.xn_model.specs.Lives.{Life, Lives, life_at}
 use Rattle.xn_model.specs.Worlds.{begun_count}
 use Rattle.xn_model.specs.Lanes.{FitsLife, FitLives}
@@ -30,7 +31,7 @@ module _ (kernel : KernelValue MemoryLane) (tickets : Tickets) (is : IsWorld ker
   pub long : length (image_of kernel.lanes tickets) ≡ length tickets
   long = length-image_of kernel.lanes tickets ∙ sym is.count
 
-  pub few : length tickets ≤ 32768
+  pub few : length tickets ≤ most_blocks
   few = let size = is.holds.state.size.1 in let count = is.holds.count in let same = long in omega arith
 
   -- a lane is at home or with a ticket

@@ -2,3 +2,4 @@ pub use Rattle.xn_state.specs.Events
 pub mod Disks
 pub mod Worlds
 pub mod WorldDisks
+pub mod Opened

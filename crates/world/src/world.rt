@@ -1,6 +1,6 @@
 // A world.
 
-ghost use Rattle.std.specs.Prelude.{◌≡◌, ◌≢◌, ◌⊎◌, ℕ, ◌<◌, List, All, length, map, Err, None, IfOk, IfErr, OnOk, MatchResult, IsTrue, true, false};
+ghost use Rattle.std.specs.Prelude.{◌≡◌, ◌≢◌, ℕ, ◌*◌, ◌<◌, List, All, length, map, None, IfOk, IfErr, OnOk, MatchResult, IsTrue, true, false};
 ghost use Rattle.std.specs.Io.KnownBytes.{Appends};
 ghost use Rattle.xn_model.specs.Images.{block_of, blocks_in, joined, IsSound};
 ghost use Rattle.xn_model.specs.BareDisks.{mounted_disk};
@@ -9,29 +9,31 @@ ghost use Rattle.xn_model.specs.Rules.{Holds, Agrees};
 ghost use Rattle.xn_history.specs.Histories.{Histories};
 ghost use Rattle.xn_history.specs.Moments.{RunWhere, Anything, IsMoment};
 ghost use Rattle.xn_history.specs.Promises.{ImageHolds};
-ghost use Rattle.image_model.specs.Walk.{head_fault, verdict};
+ghost use Rattle.image_model.specs.Walk.{head_fault};
 ghost use Rattle.image_model.specs.Report.{IsSoundImage};
 ghost use Rattle.crash_check.specs.Mounts.{state_of};
 ghost use Rattle.ffs_model.specs.Cuts.{Choice, IsCut, IsCutImage, SameUnder, seen};
 ghost use Rattle.ffs_model.specs.Events.{IsForeign};
 ghost use Rattle.templates.specs.Templates.{IsTemplate};
-ghost use Rattle.templates.specs.Formats.{formatted, format_fault, IsFormatFault};
+ghost use Rattle.templates.specs.Formats.{formatted, format_fault, most_formatted, IsFormatFault};
 ghost use Rattle.templates.specs.Language.{language, types_of_image};
 ghost use Rattle.xn_kernel.specs.Kernels.{is_in_flight};
 ghost use Rattle.xn_state.specs.Events.{event_of, reply_of, IsNoCrash};
 ghost use Rattle.world.specs.Worlds.{is_any_in_flight, world_with, IsSoundDisk};
+ghost use Rattle.world.specs.Opened.{IsHeldWhole, IsOpenFault};
 ghost use Rattle.world.specs.WorldDisks.{disk_value, IsWorldDisk};
 
 use crate::running::Running;
 use crate::unmounted::{UnmountedDisk, is_whole};
 use crash_check::{ImageFault, state_of};
+use disk::BLOCK_LEN;
 use ffs_model::{events_keep_cuts, image_is_cut};
 use std::alloc::{AllocError, Allocator, Global};
 use std::io::Write;
 use std::marker::Model;
 use std::thread::Threads;
 use std::{io, mem};
-use templates::{FormatFault, Template, format_image};
+use templates::{FormatFault, MAX_FORMAT_BLOCKS, Template, format_image};
 use xn_model::Refusal;
 use xn_state::{Answer, EditId, Event, Landed, Reply, State, Stopped};
 
@@ -90,7 +92,8 @@ impl World {
     }
 
     /// The disk of an image, and its first mount, under the types of the image's own catalogue. `Err` has the image's first
-    /// fault, as a check tells it, or comes for want of memory: only where the image's length, mark and count are right.
+    /// fault, as a check tells it, `BadLength` for one of more than 32,768 blocks too, or comes for want of memory: only where the image's
+    /// length, mark and count are right.
     pub fn open(
         rt: &(impl Threads + Sync),
         alloc: Global,
@@ -98,9 +101,11 @@ impl World {
     ) -> Result<World, ImageFault>
         ensures ok { IfOk result (λ world. IsSoundImage (types_of_image (blocks_in image.now)) image.now
             × (world_with world ≡ mounted_disk language (blocks_in image.now))) }
-        ensures err { IfErr result (λ fault. (fault ≡ ImageFault.NoMemory) ⊎ (verdict (types_of_image (blocks_in image.now)) image.now ≡ Err fault)) }
+        ensures held { OnOk result (IsHeldWhole image.now) }
+        ensures err { IfErr result (IsOpenFault image.now) }
         ensures head_first { IfErr result (λ fault. fault ≡ ImageFault.NoMemory → head_fault image.now ≡ None) }
     {
+        is_held_whole(image)?;
         let state = state_of(rt, alloc, image)?;
         match Vec::from_slice(alloc, image) {
             Ok(image) => World::known(alloc, alloc, image, state),
@@ -116,7 +121,8 @@ impl World {
     ) -> Result<World, ImageFault>
         ensures ok { IfOk result (λ world. IsSoundImage (types_of_image (blocks_in image.items)) image.items
             × (world_with world ≡ mounted_disk language (blocks_in image.items))) }
-        ensures err { IfErr result (λ fault. (fault ≡ ImageFault.NoMemory) ⊎ (verdict (types_of_image (blocks_in image.items)) image.items ≡ Err fault)) }
+        ensures held { OnOk result (IsHeldWhole image.items) }
+        ensures err { IfErr result (IsOpenFault image.items) }
         ensures head_first { IfErr result (λ fault. fault ≡ ImageFault.NoMemory → head_fault image.items ≡ None) }
     {
         World::open_image_in(rt, alloc, alloc, image)
@@ -134,9 +140,11 @@ impl<A: Allocator + Copy> World<A> {
     ) -> Result<World<A>, ImageFault>
         ensures ok { IfOk result (λ world. IsSoundImage (types_of_image (blocks_in image.items)) image.items
             × (world_with world ≡ mounted_disk language (blocks_in image.items))) }
-        ensures err { IfErr result (λ fault. (fault ≡ ImageFault.NoMemory) ⊎ (verdict (types_of_image (blocks_in image.items)) image.items ≡ Err fault)) }
+        ensures held { OnOk result (IsHeldWhole image.items) }
+        ensures err { IfErr result (IsOpenFault image.items) }
         ensures head_first { IfErr result (λ fault. fault ≡ ImageFault.NoMemory → head_fault image.items ≡ None) }
     {
+        is_held_whole(&image)?;
         let state = state_of(rt, alloc, &image)?;
         World::known(alloc, rooms, image, state)
     }
@@ -411,6 +419,17 @@ impl<A: Allocator> WorldDisk<A> {
             WorldDisk::Down(disk) => disk,
         }
     }
+}
+
+/// An image has no more blocks than a world holds.
+fn is_held_whole(image: &[u8]) -> Result<(), ImageFault>
+    ensures held { OnOk result (IsHeldWhole image.now) }
+    ensures err { IfErr result (λ fault. (512 * most_formatted < length image.now) × (fault ≡ ImageFault.BadLength)) }
+{
+    if image.len() > BLOCK_LEN * MAX_FORMAT_BLOCKS as usize {
+        return Err(ImageFault::BadLength);
+    }
+    Ok(())
 }
 
 /// The one fault of an image that is sound.

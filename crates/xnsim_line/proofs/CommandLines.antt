@@ -8,6 +8,7 @@ use Rattle.std.specs.Str.{bytes_eq}
 use Rattle.std.proofs.lemmas.Option.{none-some, same_Some}
 use Rattle.std.proofs.lemmas.Bool.Decides.{eqb_tells}
 use Rattle.std.proofs.lemmas.Fmt.{first_decimal}
+use Rattle.templates.specs.Formats.{most_formatted}
 use Rattle.clap.specs.Words.{Row, Text, first_of, first_value, found_of, is_simple, rows_of, subcommand_of, subcommand_rows, subcommand_rows_of, takes, HasMatchesOf}
 use Rattle.clap.specs.Lexer.{strip_byte}
 use Rattle.clap.specs.Matches.{subcommand_name_of}
@@ -142,7 +143,7 @@ pub line_is_three : (start rest : List (List ℕ)) → length start ≡ 3 → (a
 line_is_three start rest three Bare line = let none : length (start ++ rest) ≡ 0 = ap length line in absurd (omega (arith, length-append start rest))
 line_is_three start rest three (Format image blocks file_system templates) line =
     let least : 32 ≤ blocks = line.3 in
-    let greatest : blocks ≤ 32768 = line.4 in
+    let greatest : blocks ≤ most_formatted = line.4 in
     let words : start ≡ codes "format" ∷ image.now ∷ decimal blocks ∷ [] = start_alike start rest (codes "format") image.now (decimal blocks) line.0 three line.1 in
     record { first = image.now; second = decimal blocks; command = inl words; first_name = line.2; second_name = decimal_is_IsName blocks (omega arith) (omega arith) }
 line_is_three start rest three (Run image script stop) line =

@@ -8,6 +8,7 @@ use Rattle.xnsim_line.specs.declared.invocation.Invocation.TheVariants.{Bare, Fo
 use Rattle.xnsim_line.specs.declared.fault.Fault.{Fault}
 use Rattle.xnsim_line.specs.declared.fault.Fault.TheVariants.{Usage, CannotRead, Unreadable, Image, CannotWrite, NoMemory, Program, Owns, Size, Template}
 use Rattle.xnsim_line.specs.declared.fault.Fault.TheVariants.{TooManyTemplates, TooManyWords, Stream}
+use Rattle.world.specs.Opened.{IsOpenFault}
 use Rattle.xnsim_line.specs.Assembling.{IsTemplateFault, PrintsTemplate}
 use Rattle.udf_verify.specs.declared.fault.Role.{Role}
 use Rattle.xnsim_line.specs.Files.{Held, IsHeld, with_file}
@@ -92,7 +93,7 @@ IsInputFault fault = ⊥
 
 -- a fault that may come of a run on the disk of an image
 abbrev pub IsFaultOnImage : List ℕ → Fault → Type 0
-IsFaultOnImage image (Image fault) = IsVerdict image fault
+IsFaultOnImage image (Image fault) = IsOpenFault image fault
 IsFaultOnImage image fault = IsRunFault fault
 
 -- a fault that may come of what is asked for
@@ -103,7 +104,7 @@ IsFaultOf input (Format image blocks file_system templates) TooManyTemplates = I
 IsFaultOf input (Format image blocks file_system templates) (CannotWrite name) = name ≡ image
 IsFaultOf input (Run image script stop) (CannotRead name) = (name ≡ image) ⊎ (name ≡ script)
 IsFaultOf input (Run image script stop) (Unreadable line) = (text : List ℕ) × IsFirstUnreadable text line
-IsFaultOf input (Run image script stop) (Image fault) = (bytes : List ℕ) × IsVerdict bytes fault
+IsFaultOf input (Run image script stop) (Image fault) = (bytes : List ℕ) × IsOpenFault bytes fault
 IsFaultOf input (Run image script stop) (CannotWrite name) = name ≡ image
 IsFaultOf input (Check image) (CannotRead name) = name ≡ image
 IsFaultOf input (Check image) (Image fault) = (bytes : List ℕ) × IsVerdict bytes fault

@@ -1,6 +1,7 @@
 use Rattle.std.specs.Prelude.{◌≡◌, ◌≢◌, ◌<◌, ◌≤◌, ◌^◌, ◌⊎◌, ℕ, Option, None, Some, IfSome, Bool, true, false, if◌then◌else◌, List, [], ◌∷◌, ◌++◌, map}
 use Rattle.std.specs.Prelude.{slice_index, codes, string_bytes, All}
 use Rattle.std.specs.Fmt.{decimal}
+use Rattle.templates.specs.Formats.{most_formatted}
 use Rattle.clap.specs.declared.error.kind.ErrorKind.{ErrorKind}
 use Rattle.clap.specs.declared.error.kind.ErrorKind.TheVariants.{OutOfMemory}
 use Rattle.xnsim_line.specs.declared.invocation.LineFault.{LineFault}
@@ -66,7 +67,7 @@ pub record IsStopWords (words : List (List ℕ)) (stop : Option Stop) : Type 0 w
 abbrev pub IsLine : List (List ℕ) → Invocation → Type 0
 IsLine words Bare = words ≡ []
 IsLine words (Format image blocks file_system templates) =
-    (rest : List (List ℕ)) × (words ≡ codes "format" ∷ image.now ∷ decimal blocks ∷ rest) × IsName image.now × (32 ≤ blocks) × (blocks ≤ 32768)
+    (rest : List (List ℕ)) × (words ≡ codes "format" ∷ image.now ∷ decimal blocks ∷ rest) × IsName image.now × (32 ≤ blocks) × (blocks ≤ most_formatted)
     × IsTemplateWords rest file_system (map string_bytes templates.now)
 IsLine words (Run image script stop) =
     (rest : List (List ℕ)) × (words ≡ codes "run" ∷ image.now ∷ script.now ∷ rest) × IsName image.now × IsName script.now × IsStopWords rest stop

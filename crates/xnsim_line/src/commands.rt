@@ -3,6 +3,7 @@
 ghost use Rattle.std.specs.Prelude.{◌≡◌, ◌≤◌, ℕ, List, [], None, IfErr, IfOk, IfSome, IsTrue, OnOk, length, map, string_bytes};
 ghost use Rattle.std.specs.Str.{IsUtf8};
 ghost use Rattle.std.specs.Io.KnownBytes.{Appends};
+ghost use Rattle.templates.specs.Formats.{most_formatted};
 ghost use Rattle.xnsim_line.specs.Done.{IsFaultOf, IsInputFault, IsLineDone, IsLineFault, PrintsAssembled, PrintsMounted, PrintsReplies, PrintsVerified};
 ghost use Rattle.xnsim_line.specs.Checking.{PrintsChecked};
 ghost use Rattle.xnsim_line.specs.Formatting.{made_line, PrintsMade};
@@ -18,15 +19,18 @@ use crate::replay::{run_on_image, run_script};
 use crate::{Fault, Files, Invocation};
 use bumpalo::Bump;
 use crash_check::count;
-use disk::BLOCK_LEN;
+use disk::{BLOCK_LEN, MAX_BLOCKS};
 use script::parse;
 use std::alloc::Global;
 use std::io::{ErrorKind, Read, Write};
 use std::thread::Threads;
 use std::{io, str};
 use system_files::Access;
-use templates::{MAX_BLOCKS, MIN_BLOCKS, write_block};
+use templates::{MAX_FORMAT_BLOCKS, MIN_BLOCKS, write_block};
 use udf_verify::Role;
+
+/// How many bytes the image of the largest disk has that is run.
+const GREATEST_RUN_LEN: usize = BLOCK_LEN * MAX_FORMAT_BLOCKS as usize;
 
 /// How many bytes the image of the largest disk has.
 const GREATEST_IMAGE_LEN: usize = BLOCK_LEN * MAX_BLOCKS as usize;
@@ -67,7 +71,7 @@ fn format<'a, F: Files, W: Write>(
     names: &'a [String],
 ) -> Result<(), Fault<'a>>
     requires least { 32 ≤ blocks }
-    requires greatest { blocks ≤ 32768 }
+    requires greatest { blocks ≤ most_formatted }
     ensures done { OnOk result (PrintsMade (F.held files.old) (F.held files.new) image.entry.now blocks file_system (map string_bytes names.entry.now)
         (W.contents out.old) (W.contents out.new)) }
     ensures fault { IfErr result (IsFaultOf None (Invocation.Format image.entry blocks file_system names.entry)) }
@@ -136,7 +140,7 @@ fn run_files<'a, F: Files, W: Write>(
     ensures fault { IfErr result (IsFaultOf None (Invocation.Run image.entry script.entry stop)) }
 {
     let before = files
-        .read_disk(alloc, image, GREATEST_IMAGE_LEN + 1, Access::Alone)
+        .read_disk(alloc, image, GREATEST_RUN_LEN + 1, Access::Alone)
         .ok_or(Fault::CannotRead(image))?;
     let text = files
         .read_short(alloc, script, GREATEST_SCRIPT_LEN)

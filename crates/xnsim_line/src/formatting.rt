@@ -2,7 +2,7 @@
 
 ghost use Rattle.std.specs.Prelude.{◌≡◌, ◌≤◌, List, map, length, string_bytes, IfOk, IfErr};
 ghost use Rattle.xn_model.specs.Images.{joined};
-ghost use Rattle.templates.specs.Formats.{formatted};
+ghost use Rattle.templates.specs.Formats.{formatted, most_formatted};
 ghost use Rattle.templates.specs.Templates.{TemplateValue};
 ghost use Rattle.xnsim_line.specs.Files.{AreHeld, IsHeld};
 ghost use Rattle.xnsim_line.specs.Formatting.{installed, IsBlockFault, IsFileFault, IsImageFault, AreTemplates};
@@ -90,7 +90,7 @@ pub fn made_image<'a>(
     templates: &[Template],
 ) -> Result<Vec<u8>, Fault<'a>>
     requires least { 32 ≤ blocks }
-    requires greatest { blocks ≤ 32768 }
+    requires greatest { blocks ≤ most_formatted }
     ensures image { IfOk result (λ image. image.items ≡ joined (formatted blocks templates.now)) }
     ensures few { IfOk result (λ image. length templates.now ≤ 16) }
     ensures fault { IfErr result (IsImageFault (length templates.now)) }

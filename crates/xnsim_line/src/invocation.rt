@@ -1,6 +1,7 @@
 ghost use Rattle.std.specs.Prelude.{◌≡◌, ◌≢◌, ◌<◌, ◌≤◌, ◌↔◌, ◌^◌, ℕ, List, [], ◌∷◌, ◌++◌, Bool, Option, Ok, Some, false, true, IfSome, IfNone, IfOk, IfErr};
 ghost use Rattle.std.specs.Prelude.{IsSomeAnd, IsTrue, All, codes, length, map, string_bytes};
 ghost use Rattle.std.specs.Fmt.{decimal};
+ghost use Rattle.templates.specs.Formats.{most_formatted};
 ghost use Rattle.clap.specs.Words.{app_of, kind_of, rule_of, takes, with_subcommand, HasMatchesOf};
 ghost use Rattle.clap.specs.declared.builder.command.Command.TheViews.{out-Command as fields_of};
 ghost use Rattle.udf_verify.specs.declared.Role.{Role};
@@ -12,7 +13,7 @@ use clap::error::ErrorKind;
 use clap::{Arg, ArgMatches, Command, Error};
 use script::parse_number;
 use std::alloc::{AllocError, Global};
-use templates::{MAX_BLOCKS, MIN_BLOCKS};
+use templates::{MAX_FORMAT_BLOCKS, MIN_BLOCKS};
 use udf_verify::Role;
 
 /// Where a run ends that doesn't come to its script's end.
@@ -176,10 +177,10 @@ fn three_words<'a>(matches: &ArgMatches<'a>) -> Option<(&'a str, &'a str, &'a st
 
 /// The number of blocks that a word asks for.
 fn parse_blocks(word: &str) -> Option<u32>
-    ensures spelled { IfSome result (λ blocks. (word.now ≡ decimal blocks) × (32 ≤ blocks) × (blocks ≤ 32768)) }
-    ensures readable { (blocks : ℕ) → 32 ≤ blocks → blocks ≤ 32768 → word.now ≡ decimal blocks → result ≡ Some blocks }
+    ensures spelled { IfSome result (λ blocks. (word.now ≡ decimal blocks) × (32 ≤ blocks) × (blocks ≤ most_formatted)) }
+    ensures readable { (blocks : ℕ) → 32 ≤ blocks → blocks ≤ most_formatted → word.now ≡ decimal blocks → result ≡ Some blocks }
 {
-    let blocks = parse_number(word, u64::from(MAX_BLOCKS))? as u32;
+    let blocks = parse_number(word, u64::from(MAX_FORMAT_BLOCKS))? as u32;
     if blocks < MIN_BLOCKS {
         return None;
     }

@@ -147,6 +147,7 @@ pub fn run_on_image<'a, A: Allocator + Copy, W: Write>(
     requires lines { SpellEvents lines.items }
     ensures run { IfOk result (λ after. RunsLines lines.entry.items
         (λ events. IsAskedRun stop image.items events (W.contents out.old) (W.contents out.new) (joined after.image))) }
+    ensures held { OnOk result (IsHeldWhole image.items) }
     ensures fault { IfErr result (IsFaultOnImage image.items) }
 {
     match World::open_image_in(rt, alloc, rooms, image) {

@@ -16,9 +16,7 @@ returns-clause-done g c =
     let start : IsStartHeld held c.args.image.now 16777217 image = search rules in
     let run = c.in_ok-after.ensures.run in
     let sound = asked_sound c.args.stop image run.0 _ _ (joined c.in_ok-after.after.image) run.2 in
-    let long : length image ≡ 512 * count_of image = sound.whole in
-    let most : count_of image ≤ 32768 = sound.blocks.size.1 in
-    let few : length image < 16777217 = omega (arith, long, most) in
+    let few : length image < 16777217 = omega (arith, c.in_ok-after.ensures.held) in
     record {
       image = image;
       text = c.in_ok-text_of.field-0.now;

@@ -1,4 +1,3 @@
-use Rattle.std.proofs.Common.{⊎_elim}
 use Rattle.world.proofs.Formats.{fresh_world, never_faulty}
 use Rattle.world.proofs.world.World.format.Goals as goal
 
@@ -9,7 +8,6 @@ returns-in-Ok g c = (
 )
 
 pub want_of_memory-requires : goal.want_of_memory-requires
-want_of_memory-requires g c = ⊎_elim
-    (λ none. none)
-    (λ e. absurd (never_faulty c.args.blocks c.args.templates.now c.in_ok-image.ensures.0 c.are_templates.ensures c.in_ok-image.image.items c.in_ok-image.ensures.1 c.in-Err.fault e))
+want_of_memory-requires g c =
+    never_faulty c.args.blocks c.args.templates.now c.in_ok-image.ensures.0 c.are_templates.ensures c.in_ok-image.image.items c.in_ok-image.ensures.1 c.in-Err.fault
     c.in-Err.ensures.err
