@@ -29,10 +29,6 @@ group_some (o ∷ os) some = refl
 pub group_free : (os : Places) → os ≡ replicate (length os) None → length (group_of os) ≡ 64 → 0 < length os → group_of [] ≡ group_of os
 group_free os free long some = ap (λ n. replicate n None) (sym long ∙ ap (λ xs. length xs) (group_some os some)) ∙ (sym free ∙ sym (group_some os some))
 
-pub group_twice : (os : Places) → group_of (group_of os) ≡ group_of os
-group_twice [] = refl
-group_twice (o ∷ os) = refl
-
 pub place_at-get_or : (os : Places) (b : ℕ) → place_at os b ≡ get_or os b None
 place_at-get_or os b = unwrap_or-slice_get os b None
 

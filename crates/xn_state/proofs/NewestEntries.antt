@@ -1,5 +1,5 @@
 -- The newest entry of a block is the one at its last place.
-use Rattle.std.proofs.Common.{◌≡◌, ◌∙◌, ℕ, suc, ◌-◌, List, [], ◌∷◌, Option, None, Some, length, slice_get, option_map, refl, ap, sym, arith}
+use Rattle.std.proofs.Common.{◌≡◌, ◌∙◌, ℕ, ◌-◌, List, [], ◌∷◌, Option, None, Some, length, slice_get, option_map, refl, ap, sym, arith}
 use Rattle.std.proofs.lemmas.Option.{none-some}
 use Rattle.std.specs.List.{last_or}
 use Rattle.xn_model.specs.Lives.{BlockState, Life}
