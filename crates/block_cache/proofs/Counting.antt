@@ -1,23 +1,26 @@
 -- What is counted of lives, where one place is written.
 use Rattle.std.proofs.Common.{◌≡◌, ℕ, zero, suc, ◌+◌, ◌-◌, ◌*◌, ◌^◌, ◌<◌, ◌≤◌, Bool, true, false, cond, List, [], ◌∷◌, length, Option, Some, None, refl, sym, ◌∙◌, ap, arith, slice_get, length-drop}
-use Rattle.std.specs.Prelude.{IsTrue, is_some, option_map, slice_set, sum_by, nat_lt, ◌||◌}
+use Rattle.std.specs.Prelude.{is_some, option_map, slice_set, sum_by, nat_lt, ◌||◌}
 use Rattle.std.specs.List.{list_any}
 use Rattle.std.proofs.lemmas.Bool.{lt-ltb}
 use Rattle.std.proofs.lemmas.List.{length-set, length_push}
 use Rattle.std.proofs.lemmas.List.Sums.{sum_by-cons}
 use Rattle.slab.specs.Slab.{Slab}
-use Rattle.xn_model.specs.declared.status.Status.{Status}
 use Rattle.xn_model.specs.Lives.{alive_and}
 use Rattle.xn_model.specs.Calls.{life_pending}
 use Rattle.xn_model.specs.Worlds.{all_pending}
 use Rattle.block_cache.specs.declared.entry.Entry.{Entry}
+use Rattle.block_cache.specs.declared.life.Change.{Change}
+use Rattle.block_cache.specs.declared.life.Change.TheVariants.{Settle, SetStatus, SetBegun}
+use Rattle.block_cache.specs.declared.totals.Exchange.{Exchange}
 use Rattle.block_cache.specs.declared.totals.Totals.{Totals}
 use Rattle.block_cache.specs.Cached.{CachedLife}
 use Rattle.block_cache.specs.Undone.{life_of, lives_of}
 use Rattle.block_cache.specs.declared.new_bytes.NewBytes.{NewBytes}
 use Rattle.block_cache.specs.NewBytes.{appended_by}
-use Rattle.block_cache.specs.Kept.{AreKept, place_at, change_place, settled, started_life, with_begun, cached_with_status}
-use Rattle.block_cache.specs.Totals.{pending_count, in_flight_of, totals_of, totals_at}
+use Rattle.block_cache.specs.Kept.{AreKept, place_at}
+use Rattle.block_cache.specs.Changed.{changed_by}
+use Rattle.block_cache.specs.Totals.{pending_count, in_flight_of, totals_of, exchange_of}
 use Rattle.block_cache.proofs.Changes.{length-pending}
 
 -- A sum in which one summand changes
@@ -39,11 +42,6 @@ module _ (f : Option CachedLife → ℕ) (free : f None ≡ 0) where
   sum-new (o ∷ os) zero x = omega arith
   sum-new (o ∷ os) (suc b) x = sum-new os b x
 
-  pub sum-same : (places : List (Option CachedLife)) (b : ℕ) (x : Option CachedLife) → f x ≡ f (place_at places b) → sum_by f (slice_set places b x) ≡ sum_by f places
-  sum-same [] b x same = refl
-  sum-same (o ∷ os) zero x same = omega (arith, sum_by-cons f x os, sum_by-cons f o os, same)
-  sum-same (o ∷ os) (suc b) x same = omega (arith, sum_by-cons f o os, sum_by-cons f o (slice_set os b x), sum-same os b x same)
-
 -- at most one of each life is in flight
 few_in_flight : (places : List (Option CachedLife)) → sum_by in_flight_of places ≤ length places
 few_in_flight [] = omega arith
@@ -57,19 +55,19 @@ few_in_flight (o ∷ os) = omega (arith, sum_by-cons in_flight_of o os, one o, f
     one None = omega arith
     one (Some l) = small (is_some l.begun)
 
--- what a change of the counts needs, and what it leaves
-pub record IsExchange (totals before after : Totals) (new : List (Option CachedLife)) : Type 0 where
-  pub pending : before.pending ≤ totals.pending
-  pub in_flight : before.in_flight ≤ totals.in_flight
-  pub few_pending : totals.pending - before.pending + after.pending < 2 ^ 64
-  pub few_in_flight : totals.in_flight - before.in_flight + after.in_flight < 2 ^ 64
-  pub counted : record { pending = totals.pending - before.pending + after.pending; in_flight = totals.in_flight - before.in_flight + after.in_flight } ≡ totals_of new
+-- what an exchange of the counts needs, and what it leaves
+pub record IsExchange (totals : Totals) (e : Exchange) (new : List (Option CachedLife)) : Type 0 where
+  pub pending : e.before.pending ≤ totals.pending
+  pub in_flight : e.before.in_flight ≤ totals.in_flight
+  pub few_pending : totals.pending - e.before.pending + e.after.pending < 2 ^ 64
+  pub few_in_flight : totals.in_flight - e.before.in_flight + e.after.in_flight < 2 ^ 64
+  pub counted : record { pending = totals.pending - e.before.pending + e.after.pending; in_flight = totals.in_flight - e.before.in_flight + e.after.in_flight } ≡ totals_of new
 
 -- a place is written, and what was counted of its life is exchanged for what is counted of it now
-pub exchange : (places new : List (Option CachedLife)) (b : ℕ) (x : Option CachedLife) (totals before after : Totals) →
+pub exchange : (places new : List (Option CachedLife)) (b : ℕ) (x : Option CachedLife) (totals : Totals) (e : Exchange) →
     totals ≡ totals_of places → length places < 2 ^ 64 → sum_by pending_count places + pending_count x < 2 ^ 64 + pending_count (place_at places b) →
-    before ≡ totals_at places b → new ≡ slice_set places b x → after ≡ totals_at new b → IsExchange totals before after new
-exchange places new b x totals before after kept long few was written is = record {
+    new ≡ slice_set places b x → e ≡ exchange_of (place_at places b) (place_at new b) → IsExchange totals e new
+exchange places new b x totals e kept long few written is = record {
   pending = omega (arith, pending_kept, pending_was, sum-at pending_count refl places b);
   in_flight = omega (arith, in_flight_kept, in_flight_was, sum-at in_flight_of refl places b);
   few_pending = omega (arith, pending_now, sum-set pending_count refl places b x, sum-new pending_count refl places b x, few);
@@ -77,8 +75,8 @@ exchange places new b x totals before after kept long few was written is = recor
   counted = (λ i. record { pending = pending_now i; in_flight = in_flight_now i }) ∙ ap totals_of (sym written);
 }
   where
-    now : after ≡ totals_at (slice_set places b x) b
-    now = is ∙ ap (λ xs. totals_at xs b) written
+    now : e ≡ exchange_of (place_at places b) (place_at (slice_set places b x) b)
+    now = is ∙ ap (λ xs. exchange_of (place_at places b) (place_at xs b)) written
 
     pending_kept : totals.pending ≡ sum_by pending_count places
     pending_kept = ap (λ (t : Totals). t.pending) kept
@@ -86,105 +84,19 @@ exchange places new b x totals before after kept long few was written is = recor
     in_flight_kept : totals.in_flight ≡ sum_by in_flight_of places
     in_flight_kept = ap (λ (t : Totals). t.in_flight) kept
 
-    pending_was : before.pending ≡ pending_count (place_at places b)
-    pending_was = ap (λ (t : Totals). t.pending) was
+    pending_was : e.before.pending ≡ pending_count (place_at places b)
+    pending_was = ap (λ (x : Exchange). x.before.pending) is
 
-    in_flight_was : before.in_flight ≡ in_flight_of (place_at places b)
-    in_flight_was = ap (λ (t : Totals). t.in_flight) was
+    in_flight_was : e.before.in_flight ≡ in_flight_of (place_at places b)
+    in_flight_was = ap (λ (x : Exchange). x.before.in_flight) is
 
-    pending_now : totals.pending - before.pending + after.pending ≡ sum_by pending_count (slice_set places b x)
+    pending_now : totals.pending - e.before.pending + e.after.pending ≡ sum_by pending_count (slice_set places b x)
     pending_now =
-        omega (arith, pending_kept, pending_was, ap (λ (t : Totals). t.pending) now, sum-at pending_count refl places b, sum-set pending_count refl places b x)
+        omega (arith, pending_kept, pending_was, ap (λ (x : Exchange). x.after.pending) now, sum-at pending_count refl places b, sum-set pending_count refl places b x)
 
-    in_flight_now : totals.in_flight - before.in_flight + after.in_flight ≡ sum_by in_flight_of (slice_set places b x)
+    in_flight_now : totals.in_flight - e.before.in_flight + e.after.in_flight ≡ sum_by in_flight_of (slice_set places b x)
     in_flight_now =
-        omega (arith, in_flight_kept, in_flight_was, ap (λ (t : Totals). t.in_flight) now, sum-at in_flight_of refl places b, sum-set in_flight_of refl places b x)
-
--- a status is written, which is not counted
-pub totals_kept : (places : List (Option CachedLife)) (b : ℕ) (status : Status) → totals_of places ≡ totals_of (change_place places b (cached_with_status status))
-totals_kept places b status = λ i. record {
-  pending = sym (sum-same pending_count refl places b x (pending_same (place_at places b))) i;
-  in_flight = sym (sum-same in_flight_of refl places b x (in_flight_same (place_at places b))) i;
-}
-  where
-    x : Option CachedLife
-    x = option_map (cached_with_status status) (place_at places b)
-
-    pending_same : (o : Option CachedLife) → pending_count (option_map (cached_with_status status) o) ≡ pending_count o
-    pending_same None = refl
-    pending_same (Some l) = refl
-
-    in_flight_same : (o : Option CachedLife) → in_flight_of (option_map (cached_with_status status) o) ≡ in_flight_of o
-    in_flight_same None = refl
-    in_flight_same (Some l) = refl
-
--- What is counted of a life once it has changed
-
-at_change : (places : List (Option CachedLife)) (b : ℕ) (f : CachedLife → CachedLife) → place_at (change_place places b f) b ≡ option_map f (place_at places b)
-at_change [] b f = refl
-at_change (o ∷ os) zero f = refl
-at_change (o ∷ os) (suc b) f = at_change os b f
-
-at_set : (places : List (Option CachedLife)) (b : ℕ) (x : Option CachedLife) → b < length places → place_at (slice_set places b x) b ≡ x
-at_set [] b x h = absurd (omega (arith, h))
-at_set (o ∷ os) zero x h = refl
-at_set (o ∷ os) (suc b) x h = at_set os b x (omega (arith, h))
-
--- what is known of the places that are seen is known of those that are kept
-pub alive_in : (places seen : List (Option CachedLife)) (b : ℕ) → places ≡ seen → IsTrue (is_some (place_at seen b)) → IsTrue (is_some (place_at places b))
-alive_in places seen b view alive = ap (λ (xs : List (Option CachedLife)). is_some (place_at xs b)) view ∙ alive
-
-pub within_in : (places seen : List (Option CachedLife)) (b : ℕ) → places ≡ seen → b < length seen → b < length places
-within_in places seen b view within = omega (arith, within, ap (λ (xs : List (Option CachedLife)). length xs) view)
-
--- what is counted of a place that has the life o now
-abbrev totals_in : Option CachedLife → Totals
-totals_in o = record { pending = pending_count o; in_flight = in_flight_of o }
-
-pub started_totals : (places new : List (Option CachedLife)) (b k : ℕ) (fs : Option ℕ) (ty : ℕ) (bytes : List ℕ) → b < length places →
-    new ≡ slice_set places b (Some (started_life k fs ty bytes)) → record { pending = 1; in_flight = 0 } ≡ totals_at new b
-started_totals places new b k fs ty bytes within is =
-    sym (ap (λ (xs : List (Option CachedLife)). totals_at xs b) is ∙ ap totals_in (at_set places b (Some (started_life k fs ty bytes)) within))
-
-pub free_totals : (places new : List (Option CachedLife)) (b : ℕ) → new ≡ slice_set places b None → record { pending = 0; in_flight = 0 } ≡ totals_at new b
-free_totals places new b is = sym (ap (λ (xs : List (Option CachedLife)). totals_at xs b) is ∙ ap totals_in (none places b))
-  where
-    none : (places : List (Option CachedLife)) (b : ℕ) → place_at (slice_set places b None) b ≡ None
-    none [] b = refl
-    none (o ∷ os) zero = refl
-    none (o ∷ os) (suc b) = none os b
-
-pub appended_totals : (places new : List (Option CachedLife)) (b k : ℕ) (bytes : NewBytes) (before after : Totals) → IsTrue (is_some (place_at places b)) →
-    before ≡ totals_at places b → after ≡ record before { pending = before.pending + 1 } → new ≡ change_place places b (appended_by k bytes) → after ≡ totals_at new b
-appended_totals places new b k bytes before after alive was now is =
-    now ∙ (ap (λ (t : Totals). record t { pending = t.pending + 1 }) was ∙ (one (place_at places b) alive
-    ∙ sym (ap (λ (xs : List (Option CachedLife)). totals_at xs b) is ∙ ap totals_in (at_change places b (appended_by k bytes)))))
-  where
-    one : (o : Option CachedLife) → IsTrue (is_some o) → record { pending = pending_count o + 1; in_flight = in_flight_of o } ≡ totals_in (option_map (appended_by k bytes) o)
-    one None h = cc
-    one (Some l) h = ap (λ n. record { pending = n; in_flight = in_flight_of (Some l) }) (sym (length_push l.keys k))
-
-pub settled_totals : (places new : List (Option CachedLife)) (b k : ℕ) (before after : Totals) →
-    before ≡ totals_at places b → after ≡ record { pending = before.pending - k; in_flight = 0 } → new ≡ change_place places b (settled k) → after ≡ totals_at new b
-settled_totals places new b k before after was now is =
-    now ∙ (ap (λ (t : Totals). record { pending = t.pending - k; in_flight = 0 }) was ∙ (less (place_at places b)
-    ∙ sym (ap (λ (xs : List (Option CachedLife)). totals_at xs b) is ∙ ap totals_in (at_change places b (settled k)))))
-  where
-    less : (o : Option CachedLife) → record { pending = pending_count o - k; in_flight = 0 } ≡ totals_in (option_map (settled k) o)
-    less None = ap (λ n. record { pending = n; in_flight = 0 }) (omega arith)
-    less (Some l) = ap (λ n. record { pending = n; in_flight = 0 }) (sym (length-drop k l.keys))
-
-pub begun_totals : (places new : List (Option CachedLife)) (b : ℕ) (begun : Option ℕ) (before after : Totals) → (IsTrue (is_some begun) → IsTrue (is_some (place_at places b))) →
-    before ≡ totals_at places b → after ≡ record before { in_flight = cond (is_some begun) 1 0 } → new ≡ change_place places b (with_begun begun) → after ≡ totals_at new b
-begun_totals places new b begun before after alive was now is =
-    now ∙ (ap (λ (t : Totals). record t { in_flight = cond (is_some begun) 1 0 }) was ∙ (same begun (place_at places b) alive
-    ∙ sym (ap (λ (xs : List (Option CachedLife)). totals_at xs b) is ∙ ap totals_in (at_change places b (with_begun begun)))))
-  where
-    same : (begun : Option ℕ) (o : Option CachedLife) → (IsTrue (is_some begun) → IsTrue (is_some o)) →
-        record { pending = pending_count o; in_flight = cond (is_some begun) 1 0 } ≡ totals_in (option_map (with_begun begun) o)
-    same None None h = refl
-    same (Some n) None h = let no = h refl in cc
-    same begun (Some l) h = refl
+        omega (arith, in_flight_kept, in_flight_was, ap (λ (x : Exchange). x.after.in_flight) now, sum-at in_flight_of refl places b, sum-set in_flight_of refl places b x)
 
 -- How many are pending after a change
 
@@ -192,13 +104,11 @@ pub pending_appended : (k : ℕ) (bytes : NewBytes) (o : Option CachedLife) → 
 pending_appended k bytes None = omega arith
 pending_appended k bytes (Some l) = omega (arith, length_push l.keys k)
 
-pub pending_settled : (k : ℕ) (o : Option CachedLife) → pending_count (option_map (settled k) o) ≤ pending_count o
-pending_settled k None = omega arith
-pending_settled k (Some l) = omega (arith, length-drop k l.keys)
-
-pub pending_begun : (begun : Option ℕ) (o : Option CachedLife) → pending_count (option_map (with_begun begun) o) ≤ pending_count o
-pending_begun begun None = omega arith
-pending_begun begun (Some l) = omega arith
+pub pending_changed : (change : Change) (o : Option CachedLife) → pending_count (option_map (changed_by change) o) ≤ pending_count o
+pending_changed change None = omega arith
+pending_changed (Settle count) (Some l) = omega (arith, length-drop count l.keys)
+pending_changed (SetStatus status) (Some l) = omega arith
+pending_changed (SetBegun begun) (Some l) = omega arith
 
 -- What is counted of the lives of the view
 

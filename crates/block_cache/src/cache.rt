@@ -20,10 +20,10 @@ ghost use Rattle.block_cache.specs.Views.{image_at, HasImage, facts_of, pending_
 
 use crate::claim::Claim;
 use crate::entry::Entry;
-use crate::life::{Facts, FoundLife, Life};
+use crate::life::{Change, Facts, FoundLife, Life};
+use crate::lives::Lives;
 use crate::named_places::NamedPlaces;
 use crate::new_bytes::NewBytes;
-use crate::places::Places;
 use crate::rollback;
 use edit_list::{EditId, Fs, Undo};
 use slab::Slab;
@@ -34,7 +34,7 @@ use xn_model::Status;
 /// What each block has been since it was last free, by block number: of each life the newest bytes, and of each pending
 /// entry the bytes that it overwrote. Beside them stands which places of the catalogue on the disk name a template.
 pub struct Cache {
-    places: Places,
+    lives: Lives,
     entries: Slab<Entry>,
     named: NamedPlaces,
 }
@@ -46,16 +46,16 @@ impl Model for Cache {
 
     ghost Value = { Lives };
 
-    ghost view = { λ a. lives_of a.entries a.places };
+    ghost view = { λ a. lives_of a.entries a.lives };
 
-    ghost invariant = { λ a. IsWhole a.entries a.places a.named.places };
+    ghost invariant = { λ a. IsWhole a.entries a.lives a.named.places };
 }
 
 /// Written by hand, so that a function that drops one calls this: a derived drop is proved anew in each such function.
 impl Drop for Cache {
     fn drop(self) {
         let Cache {
-            places: _,
+            lives: _,
             entries: _,
             named: _,
         } = self;
@@ -75,7 +75,7 @@ impl Cache {
         ensures { IfOk result (λ cache. cache ≡ map (rest_at found.now blocks.now) (range_with_len 0 (length found.now))) }
     {
         Ok(Cache {
-            places: Places::found(alloc, found, blocks)?,
+            lives: Lives::found(alloc, found, blocks)?,
             entries: Slab::new(alloc),
             named: named_in(found, blocks),
         })
@@ -97,7 +97,7 @@ impl Cache {
     {
         self.entries.reserve(1)?;
         let key = self.entries.vacant_key();
-        self.places.start(block, key, fs, ty, bytes)?;
+        self.lives.start(block, key, fs, ty, bytes)?;
         self.entries.insert_reserved(Entry {
             block,
             claim: Claim::first(number, fs),
@@ -110,9 +110,9 @@ impl Cache {
     pub fn end(&mut self, block: u32)
         ensures { self.new ≡ slice_set self.old block None }
     {
-        let life = self.places.life(block);
+        let life = self.lives.life(block);
         forget_all(&mut self.entries, life);
-        self.places.end(block);
+        self.lives.end(block);
         self.named = self.named.without(block);
     }
 
@@ -120,7 +120,7 @@ impl Cache {
     pub fn blocks(&self) -> u32
         ensures { result ≡ length self.now }
     {
-        self.places.count() as u32
+        self.lives.blocks()
     }
 
     /// Whether there is a block of this number.
@@ -136,7 +136,7 @@ impl Cache {
         ensures few { IfSome result (λ facts. facts.pending ≤ 64) }
         ensures begun { IfSome result (λ facts. IsCount facts.begun facts.pending) }
     {
-        let life = self.places.life(block)?;
+        let life = self.lives.life(block)?;
         Some(life.facts())
     }
 
@@ -166,21 +166,21 @@ impl Cache {
         ensures count { result ≡ all_pending self.now }
         ensures few { result ≤ 64 * length self.now }
     {
-        self.places.pending()
+        self.lives.pending()
     }
 
     /// Whether a write of some block is under way.
     pub fn is_any_in_flight(&self) -> bool
         ensures { result ≡ list_any (alive_and (λ l. is_some l.begun)) self.now }
     {
-        self.places.in_flight() > 0
+        self.lives.in_flight() > 0
     }
 
     /// Whether a block is in use and belongs to a file system.
     pub fn is_for(&self, block: u32, fs: Fs) -> bool
         ensures { result ≡ alive_and (λ l. is_for fs.number l.fs) (life_at self.now block) }
     {
-        match self.places.life(block) {
+        match self.lives.life(block) {
             Some(life) => life.is_for(fs),
             None => false,
         }
@@ -190,7 +190,7 @@ impl Cache {
     pub fn claim(&self, block: u32, place: usize) -> Option<&Claim>
         ensures { option_copied result ≡ option_map claim_of (slice_get (pending_at (life_at self.now block)) place) }
     {
-        let life = self.places.life(block)?;
+        let life = self.lives.life(block)?;
         let entry = entry_at(&self.entries, life.keys(), place)?;
         Some(&entry.claim)
     }
@@ -206,7 +206,7 @@ impl Cache {
     pub fn current(&self, block: u32) -> Option<&[u8; 512]>
         ensures { option_copied result ≡ option_map current (life_at self.now block) }
     {
-        let life = self.places.life(block)?;
+        let life = self.lives.life(block)?;
         Some(life.current())
     }
 
@@ -215,7 +215,7 @@ impl Cache {
         requires { IfSome (life_at self.now block) (HasImage count) }
         ensures { result ≡ option_map (image_at count) (life_at self.now block) }
     {
-        let life = self.places.life(block)?;
+        let life = self.lives.life(block)?;
         Some(rollback::image_of(&self.entries, life, count as usize))
     }
 
@@ -224,7 +224,7 @@ impl Cache {
         requires { IfSome (life_at self.now block) (HasImage count) }
         ensures { result ≡ alive_and (λ l. bytes_eq bytes.now (image_at count l)) (life_at self.now block) }
     {
-        match self.places.life(block) {
+        match self.lives.life(block) {
             Some(life) => rollback::is_image(&self.entries, life, count as usize, bytes),
             None => false,
         }
@@ -237,7 +237,7 @@ impl Cache {
         requires has { IfSome (life_at self.now block) (HasImage count) }
         ensures { IfSome (life_at self.now block) (λ l. result ≡ image_at count l) }
     {
-        let Some(life) = self.places.life(block) else {
+        let Some(life) = self.lives.life(block) else {
             unreachable!()
         };
         rollback::image_of(&self.entries, life, count as usize)
@@ -262,7 +262,7 @@ impl Cache {
     {
         self.entries.reserve(1)?;
         let key = self.entries.vacant_key();
-        self.places.append(block, key, bytes)?;
+        self.lives.append(block, key, bytes)?;
         self.entries.insert_reserved(Entry { block, claim, undo });
         Ok(())
     }
@@ -271,7 +271,7 @@ impl Cache {
     pub fn set_status(&mut self, block: u32, status: Status)
         ensures { self.new ≡ change_at self.old block (with_status status) }
     {
-        self.places.set_status(block, status);
+        self.lives.change(block, Change::SetStatus(status));
     }
 
     /// Begins a write of a block that carries its first entries.
@@ -280,7 +280,7 @@ impl Cache {
         requires within { count ≤ life_pending (life_at self.old block) }
         ensures { self.new ≡ begun_at self.old block count }
     {
-        self.places.set_begun(block, Some(count));
+        self.lives.change(block, Change::SetBegun(Some(count)));
     }
 
     /// Ends a write of a block that made its first entries durable: those are forgotten, and the newest bytes stay. With
@@ -291,7 +291,7 @@ impl Cache {
         ensures { self.new ≡ settled_at self.old block count }
     {
         if count == 0 {
-            self.places.set_begun(block, None);
+            self.lives.change(block, Change::SetBegun(None));
         } else {
             self.make_durable(block, count);
         }
@@ -304,9 +304,9 @@ impl Cache {
         ensures { self.new ≡ settled_at self.old block count }
     {
         let named = self.named_after(block, count);
-        let life = self.places.life(block);
+        let life = self.lives.life(block);
         forget_first(&mut self.entries, life, count as usize);
-        self.places.settle(block, count);
+        self.lives.change(block, Change::Settle(count));
         self.named = named;
     }
 

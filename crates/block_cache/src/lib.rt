@@ -6,12 +6,12 @@ mod cache;
 mod claim;
 mod entry;
 mod freeing;
+mod group;
 mod life;
-mod life_list;
+mod lives;
 mod named_places;
 mod new_bytes;
 mod place;
-mod places;
 mod rollback;
 mod totals;
 

@@ -5,6 +5,7 @@ ghost use Rattle.xn_model.specs.Lives.{is_dropped, is_for, is_fresh, is_owned_by
 ghost use Rattle.block_cache.specs.Systems.{system_of};
 ghost use Rattle.block_cache.specs.Kept.{started_life, resting};
 ghost use Rattle.block_cache.specs.NewBytes.{AreWithinLimits, appended_by};
+ghost use Rattle.block_cache.specs.Changed.{MayChange, changed_by};
 
 use crate::new_bytes::NewBytes;
 use edit_list::Fs;
@@ -40,6 +41,17 @@ impl Model for Life {
       keys = a.keys.items;
       begun = a.begun;
     } };
+}
+
+/// What changes of a life, beside its bytes, and takes no memory.
+#[derive(Clone, Copy)]
+pub enum Change {
+    /// Its first entries are durable, so many, and no write is under way.
+    Settle(u32),
+    /// It has this status.
+    SetStatus(Status),
+    /// A begun write carries so many entries, or none is under way.
+    SetBegun(Option<u32>),
 }
 
 /// What is found of a block in use in an image, beside its bytes: the file system that it belongs to, its type and status.
@@ -247,7 +259,7 @@ impl Life {
     }
 
     /// Makes the first entries durable.
-    pub fn settle(&mut self, count: usize)
+    fn settle(&mut self, count: usize)
         requires { count ≤ length self.old.keys }
         ensures { self.new ≡ record self.old { is_durable = true; keys = drop count self.old.keys; begun = None } }
     {
@@ -256,16 +268,16 @@ impl Life {
         self.begun = None;
     }
 
-    pub fn set_status(&mut self, status: Status)
-        ensures { self.new ≡ record self.old { status = status } }
+    /// Changes what is kept beside the bytes.
+    #[inline(always)]
+    pub fn change(&mut self, change: Change)
+        requires { MayChange change self.old }
+        ensures { self.new ≡ changed_by change self.old }
     {
-        self.status = status;
-    }
-
-    /// Says how many entries a begun write carries, or that none is under way.
-    pub fn set_begun(&mut self, begun: Option<u32>)
-        ensures { self.new ≡ record self.old { begun = begun } }
-    {
-        self.begun = begun;
+        match change {
+            Change::Settle(count) => self.settle(count as usize),
+            Change::SetStatus(status) => self.status = status,
+            Change::SetBegun(begun) => self.begun = begun,
+        }
     }
 }

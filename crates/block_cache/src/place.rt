@@ -1,20 +1,22 @@
 // The place of a block among the lives.
 
-ghost use Rattle.std.specs.Prelude.{◌≡◌, ◌≤◌, length, option_map, Some, None, IsTrue, IfSome, OnOk, OnErr, is_some};
+ghost use Rattle.std.specs.Prelude.{◌≡◌, option_map, Some, None, IsTrue, IfOk, IfSome, OnOk, OnErr, is_some};
 ghost use Rattle.std.specs.Option.{option_copied};
 ghost use Rattle.block_cache.specs.Systems.{system_of};
-ghost use Rattle.block_cache.specs.Kept.{resting, settled, started_life, cached_with_status, with_begun};
+ghost use Rattle.block_cache.specs.Kept.{resting, started_life};
+ghost use Rattle.block_cache.specs.Changed.{MayChange, changed_by};
 ghost use Rattle.block_cache.specs.NewBytes.{AreWithinLimits, appended_by};
+ghost use Rattle.block_cache.specs.Totals.{exchange_of, totals_in};
 
-use crate::life::{FoundLife, Life};
+use crate::life::{Change, FoundLife, Life};
 use crate::new_bytes::NewBytes;
+use crate::totals::{Exchange, Totals};
 use edit_list::Fs;
 use std::alloc::{AllocError, Global};
 use std::marker::Model;
-use xn_model::Status;
 
 /// The place of a block: its life, or room for the next one. Lives start and end where they stand, so that their bytes are
-/// copied once and never moved.
+/// copied once and never moved. What changes a life says what was counted of it and what is counted now.
 #[derive(Drop)]
 pub struct Place {
     life: Life,
@@ -58,6 +60,13 @@ impl Place {
         if self.is_used { Some(&self.life) } else { None }
     }
 
+    /// What is counted of it.
+    fn totals(&self) -> Totals
+        ensures { result ≡ totals_in self.now }
+    {
+        Totals::of(self.life())
+    }
+
     /// Starts a life that no owner names, a file system's or nobody's, with its first entry.
     #[inline(always)]
     pub fn start(
@@ -66,57 +75,64 @@ impl Place {
         fs: Option<Fs>,
         ty: u32,
         bytes: &[u8; 512],
-    ) -> Result<(), AllocError>
+    ) -> Result<Exchange, AllocError>
         ensures ok { OnOk result (self.new ≡ Some (started_life key (system_of fs) ty bytes.now)) }
         ensures err { OnErr result (self.new ≡ self.old) }
+        ensures exchange { IfOk result (λ exchange. exchange ≡ exchange_of self.old self.new) }
     {
+        let before = self.totals();
         self.life.restart(key, fs, ty, bytes)?;
         self.is_used = true;
-        Ok(())
+        Ok(Exchange {
+            before,
+            after: self.totals(),
+        })
     }
 
     /// Frees the block.
-    pub fn end(&mut self)
-        ensures { self.new ≡ None }
+    pub fn end(&mut self) -> Exchange
+        ensures end { self.new ≡ None }
+        ensures exchange { result ≡ exchange_of self.old self.new }
     {
+        let before = self.totals();
         self.is_used = false;
+        Exchange {
+            before,
+            after: self.totals(),
+        }
     }
 
     /// Puts one more entry of a block in use behind the others, which left these bytes.
-    pub fn append(&mut self, key: usize, bytes: NewBytes<'_>) -> Result<(), AllocError>
+    #[inline(always)]
+    pub fn append(&mut self, key: usize, bytes: NewBytes<'_>) -> Result<Exchange, AllocError>
         requires alive { IsTrue (is_some self.old) }
         requires leaves { AreWithinLimits bytes }
         ensures ok { OnOk result (self.new ≡ option_map (appended_by key bytes.entry) self.old) }
         ensures err { OnErr result (self.new ≡ self.old) }
+        ensures exchange { IfOk result (λ exchange. exchange ≡ exchange_of self.old self.new) }
     {
-        self.life.append(key, bytes)
+        let before = self.totals();
+        self.life.append(key, bytes)?;
+        Ok(Exchange {
+            before,
+            after: self.totals(),
+        })
     }
 
-    /// Makes the first entries of a block in use durable.
-    pub fn settle(&mut self, count: usize)
-        requires { IfSome self.old (λ life. count ≤ length life.keys) }
-        ensures { self.new ≡ option_map (settled count) self.old }
+    /// Changes the life of a block in use; a free one has none.
+    #[inline(always)]
+    pub fn change(&mut self, change: Change) -> Exchange
+        requires { IfSome self.old (MayChange change) }
+        ensures changed { self.new ≡ option_map (changed_by change) self.old }
+        ensures exchange { result ≡ exchange_of self.old self.new }
     {
+        let before = self.totals();
         if self.is_used {
-            self.life.settle(count);
+            self.life.change(change);
         }
-    }
-
-    /// Sets the status of a block in use.
-    pub fn set_status(&mut self, status: Status)
-        ensures { self.new ≡ option_map (cached_with_status status) self.old }
-    {
-        if self.is_used {
-            self.life.set_status(status);
-        }
-    }
-
-    /// Says how many entries the begun write of a block in use carries, or that none is under way.
-    pub fn set_begun(&mut self, begun: Option<u32>)
-        ensures { self.new ≡ option_map (with_begun begun) self.old }
-    {
-        if self.is_used {
-            self.life.set_begun(begun);
+        Exchange {
+            before,
+            after: self.totals(),
         }
     }
 }

@@ -1,8 +1,8 @@
 // What is counted of lives.
 
-ghost use Rattle.std.specs.Prelude.{◌≡◌, ◌+◌, ◌-◌, ◌^◌, ◌<◌, ◌≤◌, cond, is_some};
+ghost use Rattle.std.specs.Prelude.{◌≡◌, ◌+◌, ◌-◌, ◌^◌, ◌<◌, ◌≤◌, None};
 ghost use Rattle.std.specs.Option.{option_copied};
-ghost use Rattle.block_cache.specs.Totals.{pending_count, in_flight_of};
+ghost use Rattle.block_cache.specs.Totals.{exchange_of, totals_in};
 
 use crate::life::Life;
 
@@ -16,7 +16,7 @@ pub struct Totals {
 impl Totals {
     /// Those of a life, or of a free block.
     pub fn of(life: Option<&Life>) -> Totals
-        ensures { result ≡ record { pending = pending_count (option_copied life.entry); in_flight = in_flight_of (option_copied life.entry) } }
+        ensures { result ≡ totals_in (option_copied life.entry) }
     {
         match life {
             Some(life) => Totals {
@@ -30,69 +30,38 @@ impl Totals {
         }
     }
 
-    /// Those of a life that has just started.
-    pub fn of_new() -> Totals
-        ensures { result ≡ record { pending = 1; in_flight = 0 } }
-    {
-        Totals {
-            pending: 1,
-            in_flight: 0,
-        }
-    }
-
-    /// Those of a free block.
-    pub fn of_free() -> Totals
-        ensures { result ≡ record { pending = 0; in_flight = 0 } }
-    {
-        Totals {
-            pending: 0,
-            in_flight: 0,
-        }
-    }
-
-    /// Those of a life once it has one more entry.
-    pub fn appended(self) -> Totals
-        requires { self.pending + 1 < 2 ^ 64 }
-        ensures { result ≡ record self { pending = self.pending + 1 } }
-    {
-        Totals {
-            pending: self.pending + 1,
-            in_flight: self.in_flight,
-        }
-    }
-
-    /// Those of a life once its write has ended and so many entries are durable.
-    pub fn settled(self, count: usize) -> Totals
-        ensures { result ≡ record { pending = self.pending - count; in_flight = 0 } }
-    {
-        Totals {
-            pending: self.pending.saturating_sub(count),
-            in_flight: 0,
-        }
-    }
-
-    /// Those of a life once this is the count of its begun write.
-    pub fn begun(self, begun: Option<u32>) -> Totals
-        ensures { result ≡ record self { in_flight = cond (is_some begun) 1 0 } }
-    {
-        Totals {
-            pending: self.pending,
-            in_flight: usize::from(begun.is_some()),
-        }
-    }
-
-    /// A life with the counts `before` has those of `after` now.
-    pub fn change(&mut self, before: Totals, after: Totals)
-        requires pending { before.pending ≤ self.old.pending }
-        requires in_flight { before.in_flight ≤ self.old.in_flight }
-        requires few_pending { self.old.pending - before.pending + after.pending < 2 ^ 64 }
-        requires few_in_flight { self.old.in_flight - before.in_flight + after.in_flight < 2 ^ 64 }
+    /// What was counted of a life before it changed is exchanged for what is counted now.
+    pub fn exchange(&mut self, exchange: Exchange)
+        requires pending { exchange.before.pending ≤ self.old.pending }
+        requires in_flight { exchange.before.in_flight ≤ self.old.in_flight }
+        requires few_pending { self.old.pending - exchange.before.pending + exchange.after.pending < 2 ^ 64 }
+        requires few_in_flight { self.old.in_flight - exchange.before.in_flight + exchange.after.in_flight < 2 ^ 64 }
         ensures { self.new ≡ record {
-          pending = self.old.pending - before.pending + after.pending;
-          in_flight = self.old.in_flight - before.in_flight + after.in_flight;
+          pending = self.old.pending - exchange.before.pending + exchange.after.pending;
+          in_flight = self.old.in_flight - exchange.before.in_flight + exchange.after.in_flight;
         } }
     {
+        let Exchange { before, after } = exchange;
         self.pending = self.pending - before.pending + after.pending;
         self.in_flight = self.in_flight - before.in_flight + after.in_flight;
+    }
+}
+
+/// What is counted of a life before and after it changes.
+#[derive(Clone, Copy)]
+pub struct Exchange {
+    pub before: Totals,
+    pub after: Totals,
+}
+
+impl Exchange {
+    /// That of a block that is free and stays so.
+    pub fn none() -> Exchange
+        ensures { result ≡ exchange_of None None }
+    {
+        Exchange {
+            before: Totals::of(None),
+            after: Totals::of(None),
+        }
     }
 }

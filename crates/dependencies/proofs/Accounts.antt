@@ -68,7 +68,7 @@ not_all p xs x i fails = by (list_all p xs) refl
     by true e = absurd (false≢true (sym fails ∙ all_at p xs x e i))
     by false e = e
 
-and_false : (t : Bool) → (t && false) ≡ false
+pub and_false : (t : Bool) → (t && false) ≡ false
 and_false true = refl
 and_false false = refl
 
@@ -119,7 +119,7 @@ unsafe_claim lives t o claim c misses = by misses
         let unmet : after ≡ false = ap (is_after_met lives (first_pending 0 o)) later.1 ∙ ((λ i. not (found i) || none_first o later.0 i)) in
         ap (λ t. (states && types) && (drops && t)) unmet ∙ (ap (λ t. (states && types) && t) (and_false drops) ∙ and_false (states && types))
 
-unsafe_first : (lives : Lives) (b c : ℕ) → WaitsFor lives b c → is_safe_at lives (life_at lives b) 0 ≡ false
+pub unsafe_first : (lives : Lives) (b c : ℕ) → WaitsFor lives b c → is_safe_at lives (life_at lives b) 0 ≡ false
 unsafe_first lives b c w = by (life_at lives b) w.first
   where
     by : (o : Option Life) → first_of o ≡ Some w.claim → is_safe_at lives o 0 ≡ false

@@ -1,29 +1,15 @@
 -- The homes of entries, and where lives change.
-use Rattle.std.proofs.Common.{◌≡◌, ℕ, zero, suc, ◌<◌, ◌⊎◌, Bool, true, false, cond, List, [], ◌∷◌, ◌++◌, length, drop, map, replicate, Option, Some, None, refl, sym, ◌∙◌, ap, arith, inl, inr}
+use Rattle.std.proofs.Common.{◌≡◌, ℕ, zero, suc, ◌<◌, ◌⊎◌, Bool, true, false, cond, List, [], ◌∷◌, ◌++◌, length, drop, map, replicate, Option, Some, None, refl, sym, ◌∙◌, ap, inl, inr}
 use Rattle.std.specs.Prelude.{◌||◌, ◌==◌, option_map, slice_index_or, slice_set}
 use Rattle.std.proofs.lemmas.Bool.{false≢true, cases_eq, eqb-true}
 use Rattle.std.proofs.lemmas.List.{get_or-set_other, get_or-set_same, length-set}
-use Rattle.xn_model.specs.Lives.{BlockState, Life, Lives, accepted_at, begun_at, freed, has_entry, is_pending, life_at, settle, settled_at}
+use Rattle.xn_model.specs.Lives.{BlockState, Life, Lives, accepted_at, begun_at, freed, has_entry, life_at, settle, settled_at}
 use Rattle.xn_model.specs.Calls.{new_life}
 use Rattle.xn_model.proofs.ForCallers.{accepted, accepted_is, change_same, each_at, set_other}
-use Rattle.dependencies.specs.Homes.{AreHomes, home_of, slot_at, slot_of, homes_with}
+use Rattle.dependencies.specs.Homes.{AreHomes, slot_at, slot_of, homes_with}
 use Rattle.dependencies.specs.Pending.{is_dirty, pends}
-use Rattle.dependencies.proofs.Accounts.{pends_within}
-use Rattle.dependencies.proofs.Dirty.{clean_at, none_of, pends_not}
+use Rattle.dependencies.proofs.Dirty.{clean_at, pends_not}
 use Rattle.dependencies.proofs.LifeChanges.{begun_with, blank_at, emptied, freed_at}
-use Rattle.dependencies.proofs.Numbered.{pending_found}
-
--- What a home says
-
-pub found_home : (lives : Lives) (b n : ℕ) → pends n (life_at lives b) ≡ true → true ≡ is_pending lives n
-found_home lives b n here = sym (pending_found lives n b (pends_within lives b n here) here)
-
-pub none_home : (lives : Lives) (homes : List (ℕ × ℕ)) (b n : ℕ) → AreHomes lives homes → home_of homes n ≡ Some b → pends n (life_at lives b) ≡ false → false ≡ is_pending lives n
-none_home lives homes b n are home fails = sym (none_of (pends n) lives (length lives) (omega arith) (λ k below. by k (pends n (life_at lives k)) refl))
-  where
-    by : (k : ℕ) (t : Bool) → pends n (life_at lives k) ≡ t → pends n (life_at lives k) ≡ false
-    by k true e = let same : b ≡ k = are n k b e home in ap (λ j. pends n (life_at lives j)) (sym same) ∙ fails
-    by k false e = e
 
 -- Lives of which nothing is pending that was not
 

@@ -6,9 +6,11 @@ pub mod FirstEntries
 pub mod Dirty
 pub mod Accounts
 pub mod LifeChanges
+pub mod FirstUnmet
 pub mod HomeChanges
 pub mod OldestEntries
 pub mod OldestChanges
+pub mod Types
 pub mod Early
 pub mod Trimming
 pub mod Waits
@@ -20,4 +22,3 @@ pub mod Ended
 pub mod IndexChanges
 pub mod Awaiting
 pub mod ForCallers
-pub mod Types

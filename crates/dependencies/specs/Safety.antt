@@ -1,8 +1,7 @@
 -- Whether an entry may go to the disk, by what it says beside its bytes.
-use Rattle.std.specs.Prelude.{ℕ, Bool, false, ◌&&◌, ◌||◌, ◌==◌, List, Option, Some, None, option_map, slice_get}
+use Rattle.std.specs.Prelude.{ℕ, Bool, false, ◌&&◌, List, Option, Some, None, option_map, slice_get}
 use Rattle.std.specs.List.{list_all}
-use Rattle.xn_model.specs.Root.{has_type}
-use Rattle.xn_model.specs.Lives.{BlockState, Life, Lives, has_durable, is_all_durable, is_after_met, is_type_met, root_on_disk}
+use Rattle.xn_model.specs.Lives.{BlockState, Life, Lives, has_durable, is_all_durable, is_after_met, is_type_met}
 use Rattle.xn_model.specs.Calls.{first_pending}
 use Rattle.block_cache.specs.Claims.{ClaimValue, claim_of}
 use Rattle.block_cache.specs.Views.{pending_at}
@@ -11,12 +10,6 @@ use Rattle.block_cache.specs.Views.{pending_at}
 abbrev pub is_claim_safe : Lives → ℕ → List BlockState → ClaimValue → Bool
 is_claim_safe lives t earlier c =
     (list_all (λ p. has_durable lives p.0) c.adds && list_all (λ p. is_type_met lives t earlier p.1) c.adds)
-    && (list_all (is_all_durable lives) c.drops && is_after_met lives earlier c.after)
-
--- The same with no look at types for block 0, whose earlier states name them, and a look at the disk for any other block.
-abbrev pub is_claim_met : Lives → ℕ → List BlockState → ClaimValue → Bool
-is_claim_met lives b earlier c =
-    (list_all (λ p. has_durable lives p.0) c.adds && (b == 0 || list_all (λ p. has_type (root_on_disk lives) p.1) c.adds))
     && (list_all (is_all_durable lives) c.drops && is_after_met lives earlier c.after)
 
 abbrev pub is_some_safe : Lives → ℕ → List BlockState → Option ClaimValue → Bool

@@ -1,16 +1,17 @@
-// Whether the entry is there that another one comes after.
+// In which block an entry is pending.
 
-ghost use Rattle.std.specs.Prelude.{◌≡◌, true, map, is_some, option_map, slice_get, IfSome};
-ghost use Rattle.xn_model.specs.Lives.{alive_and, has_entry, is_after_met, is_pending, life_at};
+ghost use Rattle.std.specs.Prelude.{◌≡◌, map, option_map, slice_get};
+ghost use Rattle.xn_model.specs.Lives.{alive_and, has_entry, life_at};
 ghost use Rattle.xn_model.specs.Calls.{first_pending};
 ghost use Rattle.block_cache.specs.Claims.{claim_of};
 ghost use Rattle.block_cache.specs.Views.{pending_at};
 ghost use Rattle.dependencies.specs.Numbers.{is_number};
+ghost use Rattle.dependencies.specs.Awaits.{home};
 ghost use Rattle.dependencies.specs.Homes.{AreHomes};
-ghost use Rattle.dependencies.specs.Pending.{is_dirty, pends};
+ghost use Rattle.dependencies.specs.Pending.{is_dirty};
 
 use crate::homes::Homes;
-use block_cache::{Cache, EditId};
+use block_cache::Cache;
 use free_map::BlockSet;
 
 /// Whether the pending entry at a place of a block has this number.
@@ -42,11 +43,10 @@ pub fn is_pending_in(cache: &Cache, block: u32, number: u64) -> bool
     has_number(cache, block, cache.pending(block), number)
 }
 
-/// A block in which the entry of this number is pending, by a walk over the blocks for which something is.
+/// The block in which the entry of this number is pending, by a walk over the blocks for which something is.
 fn pending_somewhere(cache: &Cache, dirty: &BlockSet, number: u64) -> Option<u32>
     requires { dirty.now ≡ map is_dirty cache.now }
-    ensures found { is_some result ≡ is_pending cache.now number }
-    ensures there { IfSome result (λ block. pends number (life_at cache.now block) ≡ true) }
+    ensures { result ≡ home cache.now number }
 {
     let blocks = cache.blocks();
     let mut from = 0;
@@ -64,8 +64,7 @@ fn pending_somewhere(cache: &Cache, dirty: &BlockSet, number: u64) -> Option<u32
 pub fn pending_block(cache: &Cache, dirty: &BlockSet, homes: &Homes, number: u64) -> Option<u32>
     requires dirty { dirty.now ≡ map is_dirty cache.now }
     requires homes { AreHomes cache.now homes.now }
-    ensures found { is_some result ≡ is_pending cache.now number }
-    ensures there { IfSome result (λ block. pends number (life_at cache.now block) ≡ true) }
+    ensures { result ≡ home cache.now number }
 {
     let Some(block) = homes.home(number) else {
         return pending_somewhere(cache, dirty, number);
@@ -74,37 +73,5 @@ pub fn pending_block(cache: &Cache, dirty: &BlockSet, homes: &Homes, number: u64
         Some(block)
     } else {
         None
-    }
-}
-
-/// Whether the entry of this number is pending in some block.
-fn is_pending(cache: &Cache, dirty: &BlockSet, homes: &Homes, number: u64) -> bool
-    requires dirty { dirty.now ≡ map is_dirty cache.now }
-    requires homes { AreHomes cache.now homes.now }
-    ensures { result ≡ is_pending cache.now number }
-{
-    pending_block(cache, dirty, homes, number).is_some()
-}
-
-/// Whether an entry that comes after another one may be written, behind the first ones of its block: the other stands among
-/// these, or is pending nowhere.
-pub fn is_after_met(
-    cache: &Cache,
-    dirty: &BlockSet,
-    homes: &Homes,
-    block: u32,
-    earlier: usize,
-    after: Option<EditId>,
-) -> bool
-    requires dirty { dirty.now ≡ map is_dirty cache.now }
-    requires homes { AreHomes cache.now homes.now }
-    ensures { result ≡ is_after_met cache.now (first_pending earlier (life_at cache.now block)) after }
-{
-    match after {
-        None => true,
-        Some(other) => {
-            has_number(cache, block, earlier, other.number())
-                || !is_pending(cache, dirty, homes, other.number())
-        }
     }
 }

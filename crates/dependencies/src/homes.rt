@@ -9,6 +9,9 @@ use std::marker::Model;
 /// The least number of slots.
 const LEAST_SLOTS: usize = 64;
 
+/// The greatest number of slots: at most 4,096 entries of each of 32 file systems are pending, and 64 of nobody, those of block 0.
+const MOST_SLOTS: usize = 1 << 18;
+
 /// The blocks of the newest entries, by their numbers: an entry never moves to another block. There are 2 ^ k slots, so that the slot of a number
 /// is its lowest bits, with no division.
 #[derive(Drop)]
@@ -27,11 +30,12 @@ impl Model for Homes {
 }
 
 impl Homes {
-    /// Slots for some of the entries of so many blocks: two for each at least, and 64 of them.
+    /// Slots for some of the entries of so many blocks: two for each, and at least 64, but no more than entries can be pending.
     pub fn new(alloc: Global, blocks: u32) -> Result<Homes, AllocError>
         ensures { IfOk result (λ homes. (slots : ℕ) × (homes ≡ replicate slots (0, 0))) }
     {
-        let count = (blocks as usize * 2).max(LEAST_SLOTS).next_power_of_two();
+        let wanted = (blocks as usize * 2).clamp(LEAST_SLOTS, MOST_SLOTS);
+        let count = wanted.next_power_of_two();
         Ok(Homes {
             slots: vec![in alloc; (0, 0); count]?,
         })

@@ -11,6 +11,7 @@ mod index;
 pub mod law;
 mod oldest;
 mod safe;
+mod unmet;
 mod wait_lists;
 mod waiting;
 

@@ -1,11 +1,12 @@
 -- The bits of a row of words.
-use Rattle.std.proofs.Common.{◌≡◌, ℕ, ◌+◌, ◌-◌, ◌*◌, ◌/◌, ◌%◌, ◌^◌, ◌<◌, ◌≤◌, w64, true, false, eqb, List, length, get_or, replicate, sym, ◌∙◌, ap, arith, inl, inr}
+use Rattle.std.proofs.Common.{◌≡◌, ℕ, ◌+◌, ◌-◌, ◌*◌, ◌/◌, ◌%◌, ◌^◌, ◌<◌, ◌≤◌, w64, min, true, false, eqb, List, length, get_or, replicate, sym, ◌∙◌, ap, arith, inl, inr}
+use Rattle.std.specs.Prelude.{nat_lt}
 use Rattle.std.specs.Int.{bit_at, trailing_zeros}
-use Rattle.std.proofs.lemmas.Bool.{cases_eq, cases_lt, false≢true}
+use Rattle.std.proofs.lemmas.Bool.{cases_eq, cases_lt, lt-ltb, le-ltb, false≢true}
 use Rattle.std.proofs.lemmas.List.{get_or-replicate, get_or_past, length-replicate}
 use Rattle.std.proofs.lemmas.Nat.{shr-shr, shr_le}
-use Rattle.std.proofs.lemmas.Nat.Bits.{bit_at-trailing_zeros, bit_at-zero, bit_at_above}
-use Rattle.free_map.specs.Bits.{has_bit, IsLowest, IsLowestBitFrom, IsLowestFrom, IsLowestIn, HasNone, HasNoneFrom, HasNoneInFrom}
+use Rattle.std.proofs.lemmas.Nat.Bits.{bit_at-trailing_zeros, bit_at-zero, bit_at_above, bit_at_ones, bit_at_ones_above}
+use Rattle.free_map.specs.Bits.{has_bit, HasFirst, IsLowest, IsLowestBitFrom, IsLowestFrom, IsLowestIn, HasNone, HasNoneFrom, HasNoneInFrom}
 
 -- a bit is set or not
 is_set : (words : List ℕ) (at : ℕ) → bit_at (get_or words (at / 64) 0) (at % 64) ≡ 1 → has_bit words at ≡ true
@@ -38,6 +39,19 @@ blank_row count w =
     elim (cases_lt w count) [
       | inl within ↦ get_or-replicate count w zero' zero' within
       | inr past ↦ get_or_past (blank_words count) w 0 (omega (arith, past, length-blank_words count))
+    ]
+
+-- so many bits that are set, from the first on
+pub first_bit : (words : List ℕ) (n k : ℕ) → HasFirst n words → has_bit words k ≡ nat_lt k n
+first_bit words n k first =
+    let word = first (k / 64) in
+    elim (cases_lt k n) [
+      | inl lt ↦
+          let within : k % 64 < min 64 (n - 64 * (k / 64)) = omega (arith, lt) in
+          is_set words k (ap (λ w. bit_at w (k % 64)) word ∙ bit_at_ones (min 64 (n - 64 * (k / 64))) (k % 64) within) ∙ sym (lt-ltb k n lt)
+      | inr past ↦
+          let above : min 64 (n - 64 * (k / 64)) ≤ k % 64 = omega (arith, past) in
+          is_clear words k (ap (λ w. bit_at w (k % 64)) word ∙ bit_at_ones_above (min 64 (n - 64 * (k / 64))) (k % 64) above) ∙ sym (le-ltb k n past)
     ]
 
 -- the lowest bit, from that of the first word that has some

@@ -1,17 +1,18 @@
 -- The members of a set, as a row of truth values.
-use Rattle.std.proofs.Common.{◌≡◌, ◌≢◌, ℕ, ◌+◌, ◌-◌, ◌*◌, ◌/◌, ◌^◌, ◌<◌, ◌≤◌, Bool, true, false, cond, List, length, get_or, set, replicate, Some, None, refl, sym, ◌∙◌, ap, subst, arith, inl, inr, slice_get}
+use Rattle.std.proofs.Common.{◌≡◌, ◌≢◌, ℕ, ◌+◌, ◌-◌, ◌*◌, ◌/◌, ◌^◌, ◌<◌, ◌≤◌, min, Bool, true, false, cond, List, length, get_or, set, replicate, Some, None, refl, sym, ◌∙◌, ap, subst, arith, inl, inr, slice_get}
 use Rattle.std.specs.Prelude.{not, ◌==◌, count_by, nat_lt, position, unwrap_or, slice_set}
 use Rattle.std.specs.List.{position_or_len}
-use Rattle.std.proofs.lemmas.Bool.{ne_eqb, eq-eqb, cases_lt, cases_eq, lt-ltb, le-ltb, ltb-true, false≢true}
+use Rattle.std.proofs.lemmas.Bool.{ne_eqb, eq-eqb, cases_lt, cases_eq, lt-ltb, le-ltb, false≢true}
 use Rattle.std.proofs.lemmas.List.{same_lists, get_or-set_same, get_or-set_other, length-set, set-get_or, get_or-replicate, length-replicate, get_or_past}
 use Rattle.std.proofs.lemmas.List.FromFn.{length-map-range_with_len, get_or-map-range_with_len}
 use Rattle.std.proofs.lemmas.List.Sums.{sum_by-set, position_or_len_is, count_by-le-length}
 use Rattle.std.proofs.lemmas.List.Folds.{sum_by-replicate}
+use Rattle.std.proofs.Math.Pow.{pow-lt}
 use Rattle.std.proofs.lemmas.Option.{unwrap_or-slice_get}
-use Rattle.free_map.specs.Bits.{has_bit, SetsBit, IsLowestFrom, IsLowestIn, IsLowest, HasNone, HasNoneInFrom}
+use Rattle.free_map.specs.Bits.{has_bit, HasFirst, SetsBit, IsLowestFrom, IsLowestIn, IsLowest, HasNone, HasNoneInFrom}
 use Rattle.free_map.specs.Bits as bits
 use Rattle.free_map.specs.Members.{members_of, is_member, AreMembers, IsLeastFrom, HasNoneFrom}
-use Rattle.free_map.proofs.BitRows.{blank_word, some_word, blank_row, blank_words, length-blank_words}
+use Rattle.free_map.proofs.BitRows.{first_bit, blank_word, some_word, blank_row, blank_words, length-blank_words}
 
 pub length-members_of : (n : ℕ) (words : List ℕ) → length (members_of n words) ≡ n
 length-members_of n words = length-map-range_with_len (has_bit words) 0 n
@@ -125,6 +126,39 @@ empty n c m room summed few few_sums = record {
   few_sums = omega (arith, few_sums, length-blank_words m);
   sums = λ w. blank_word (blank_words m) w (blank_row m (w / 64)) ∙ ap (nat_lt 0) (sym (blank_row c w));
   counted = sym (ap (count_by is_member) (members_of-blank n c) ∙ (sum_by-replicate one_if n false ∙ omega arith));
+}
+
+-- The full set
+
+pub members_of-first : (n : ℕ) (words : List ℕ) → HasFirst n words → members_of n words ≡ replicate n true
+members_of-first n words first =
+    let long = length-members_of n words in
+    same_lists _ _ (long ∙ sym (length-replicate n true))
+    (λ k d h.
+    let lt : k < n = omega (arith, h, long) in
+    get_or-members_of n words k d lt ∙ (first_bit words n k first ∙ (lt-ltb k n lt ∙ sym (get_or-replicate n k true d lt))))
+
+some_first : (n w m : ℕ) → n ≤ 64 * m → 64 * m < n + 64 → nat_lt w m ≡ nat_lt 0 (2 ^ min 64 (n - 64 * w) - 1)
+some_first n w m most least =
+    elim (cases_lt w m) [
+      | inl lt ↦
+          let some : 1 ≤ min 64 (n - 64 * w) = omega arith in
+          lt-ltb w m lt ∙ sym (lt-ltb 0 (2 ^ min 64 (n - 64 * w) - 1) (omega (arith, pow-lt some)))
+      | inr past ↦
+          let none : min 64 (n - 64 * w) ≡ 0 = omega arith in
+          le-ltb w m past ∙ ap (λ b. nat_lt 0 (2 ^ b - 1)) (sym none)
+    ]
+
+pub full : (n m : ℕ) (words filled : List ℕ) → HasFirst n words → HasFirst m filled → n ≤ 64 * m → 64 * m < n + 64 → n ≤ 64 * length words → length words ≤ 64 * length filled →
+    length words ≤ 2 ^ 26 → length filled ≤ 2 ^ 26 → AreMembers n words filled n
+full n m words filled first sums most least room summed few few_sums = record {
+  past = λ k from. first_bit words n k first ∙ le-ltb k n from;
+  room = room;
+  summed = summed;
+  few = few;
+  few_sums = few_sums;
+  sums = λ w. first_bit filled m w sums ∙ (some_first n w m most least ∙ ap (nat_lt 0) (sym (first w)));
+  counted = sym (ap (count_by is_member) (members_of-first n words first) ∙ (sum_by-replicate one_if n true ∙ omega arith));
 }
 
 -- Reads

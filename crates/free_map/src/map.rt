@@ -26,11 +26,9 @@ impl FreeMap {
     pub fn new(alloc: Global, blocks: u32) -> Result<FreeMap, AllocError>
         ensures { IfOk result (λ map. map ≡ replicate blocks true) }
     {
-        let mut free = BlockSet::new(alloc, blocks)?;
-        for block in 0..blocks {
-            free.insert(block);
-        }
-        Ok(FreeMap { free })
+        Ok(FreeMap {
+            free: BlockSet::full(alloc, blocks)?,
+        })
     }
 
     /// How many blocks are free.

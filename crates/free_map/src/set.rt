@@ -43,6 +43,20 @@ impl BlockSet {
         })
     }
 
+    /// The set of all numbers below a bound.
+    pub fn full(alloc: Global, bound: u32) -> Result<BlockSet, AllocError>
+        ensures { IfOk result (λ set. set ≡ replicate bound true) }
+    {
+        let members = bound as usize;
+        let words = members / 64 + 1;
+        Ok(BlockSet {
+            bound,
+            words: Words::with_first(alloc, words, members)?,
+            filled: Words::with_first(alloc, words / 64 + 1, members.div_ceil(64))?,
+            count: bound,
+        })
+    }
+
     /// The bound that every member is below.
     pub fn bound(&self) -> u32
         ensures { result ≡ length self.now }

@@ -1,6 +1,6 @@
 // Single bits of a word.
 
-ghost use Rattle.std.specs.Prelude.{◌≡◌, ◌≢◌, ℕ, ◌<◌, ◌≤◌, ◌↔◌, IsTrue, IfSome, IfNone};
+ghost use Rattle.std.specs.Prelude.{◌≡◌, ◌≢◌, ℕ, ◌-◌, ◌^◌, ◌<◌, ◌≤◌, ◌↔◌, IsTrue, IfSome, IfNone};
 ghost use Rattle.free_map.specs.Bits.{IsLowestBitFrom};
 ghost use Rattle.std.specs.Int.{bit_at};
 
@@ -28,6 +28,17 @@ pub fn without_bit(word: u64, at: u32) -> u64
     ensures others { (k : ℕ) → k < 64 → k ≢ at → bit_at result k ≡ bit_at word k }
 {
     word & !(1 << at)
+}
+
+/// The word of which the first bits are set, so many, and no other.
+pub fn first_bits(count: u32) -> u64
+    requires { count ≤ 64 }
+    ensures { result ≡ 2 ^ count - 1 }
+{
+    if count == 64 {
+        return u64::MAX;
+    }
+    (1 << count) - 1
 }
 
 /// The lowest bit of a word that has some bit.

@@ -1,7 +1,7 @@
 // A row of words, read as one row of bits.
 
 ghost use Rattle.std.specs.Prelude.{◌≡◌, ℕ, ◌+◌, ◌*◌, ◌/◌, ◌<◌, ◌≤◌, ◌^◌, ◌==◌, true, false, length, replicate, IfOk, IfSome, IfNone, slice_index};
-ghost use Rattle.free_map.specs.Bits.{has_bit, SetsBit, IsLowestIn, IsLowestFrom, IsLowest, HasNone, HasNoneFrom, HasNoneInFrom};
+ghost use Rattle.free_map.specs.Bits.{has_bit, HasFirst, SetsBit, IsLowestIn, IsLowestFrom, IsLowest, HasNone, HasNoneFrom, HasNoneInFrom};
 
 use crate::word;
 use std::alloc::{AllocError, Global};
@@ -29,6 +29,20 @@ impl Words {
         Ok(Words {
             words: vec![in alloc; 0; count]?,
         })
+    }
+
+    /// So many words, of whose bits the first ones are set.
+    pub fn with_first(alloc: Global, count: usize, bits: usize) -> Result<Words, AllocError>
+        requires within { bits ≤ 64 * count }
+        requires few { count ≤ 2 ^ 32 }
+        ensures long { IfOk result (λ words. length words ≡ count) }
+        ensures first { IfOk result (HasFirst bits) }
+    {
+        let mut words = vec![in alloc; 0; count]?;
+        for at in 0..count {
+            words[at] = word::first_bits(bits.saturating_sub(64 * at).min(64) as u32);
+        }
+        Ok(Words { words })
     }
 
     /// Whether a bit is set.

@@ -7,12 +7,12 @@ use Rattle.block_cache.proofs.cache.Cache.image.Goals as goal
 
 pub image_of-requires : goal.image_of-requires
 image_of-requires c =
-    (image_there c.self.inside.entries c.self.inside.places c.args.self.now c.args.block c.in-Some.life.now c.args.count c.self.invariant.kept c.self.view_is c.in-Some.ensures c.requires.has).0
+    (image_there c.self.inside.entries c.self.inside.lives c.args.self.now c.args.block c.in-Some.life.now c.args.count c.self.invariant.kept c.self.view_is c.in-Some.ensures c.requires.has).0
 
 pub returns : goal.returns
 returns c =
     let slab = c.self.inside.entries in
-    let places = c.self.inside.places in
+    let places = c.self.inside.lives in
     let life = c.in-Some.life.now in
     let image = image_there slab places c.args.self.now c.args.block life c.args.count c.self.invariant.kept c.self.view_is c.in-Some.ensures c.requires.has in
     let there = life_there slab places c.args.self.now c.args.block life c.self.view_is c.in-Some.ensures in
