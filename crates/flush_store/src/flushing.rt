@@ -13,7 +13,7 @@ use xn_kernel::{FlushStop, Kernel, Refusal, Store};
 
 /// A store on a disk that can be flushed. What a flush leaves of rules and newest bytes is said by the law `flushes_keep_newest`.
 pub trait FlushStore: Store {
-    /// Writes all that is pending in waves of up to 256 blocks, and answers how many that took; each block keeps its newest bytes. It is refused
+    /// Writes all that is pending in waves of up to 4,096 blocks, and answers how many that took; each block keeps its newest bytes. It is refused
     /// where a write is under way (`InFlight`) and for want of memory (`NoMemory`), which both do nothing, and stops with the wave in
     /// which a read, a write or a sync failed (`Device`): then the store may have blocks in flight that nothing finishes any more.
     fn flush(&mut self, alloc: Global) -> Result<u32, Refusal>

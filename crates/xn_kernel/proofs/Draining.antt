@@ -18,8 +18,8 @@ use Rattle.xn_model.specs.Worlds.{all_pending}
 use Rattle.xn_model.proofs.ForCallers.{unless_ok, never_ok, none_from, same_ok, map_ok, gives_exactly-ok, life_from, place_from, change_same, positive, round_leaves}
 use Rattle.xn_state.specs.States.{own_types}
 use Rattle.xn_kernel.specs.Kernels.{KernelValue, TicketValue, IsKernel, is_in_flight, is_mine}
-use Rattle.xn_kernel.specs.Drains.{Reads, WriteRelation, Writes, with_home, Round, Rounds, Unwritten, Unsynced, Unread}
-use Rattle.xn_kernel.specs.Flushes.{HoldsOneOf, kernel_with_begun}
+use Rattle.xn_kernel.specs.Drains.{Reads, WriteRelation, with_home, Round, Rounds, Unwritten, Unsynced, Unread}
+use Rattle.xn_kernel.specs.Flushes.{HoldsOneOf, Wrote, kernel_with_begun}
 
 -- no write is under way
 pub idle_from : (lives : Lives) → list_any (alive_and (λ l. is_some l.begun)) lives ≡ false → IsIdle lives
@@ -33,6 +33,7 @@ idle_from (Some x ∷ os) e (suc b) l at = idle_from os (or_parts (is_some x.beg
 -- The life of a block whose write begins
 
 pub record Began (state : StoreState) (b : ℕ) (bytes : List ℕ) (count : ℕ) (begun : StoreState) : Type 0 where
+  pub after : begun ≡ record state { lives = begun_at state.lives b count }
   pub life : Life
   pub alive : life_at state.lives b ≡ Some life
   pub some : 1 ≤ count
@@ -59,6 +60,7 @@ began state begun b bytes count e =
     let here : life_at (begun_at state.lives b count) b ≡ Some (record l.0 { begun = Some count }) =
     change_same state.lives b (λ x. record x { begun = Some count }) ∙ ap (option_map {T = Life} (λ x. record x { begun = Some count })) l.1 in
     record {
+      after = after;
       life = l.0;
       alive = l.1;
       some = l.2;
@@ -145,20 +147,13 @@ landed_or_kept (Ok done) new either = inl new
 landed_or_kept (Err fault) new either = ⊎_elim (λ b. inr (b, (fault, refl))) (λ a. inl a) either
 
 module _ {L : Type 0} (bytes : L → List ℕ) (crash : L → List ℕ → Type 0) (faults : L → ℕ) (writes : WriteRelation L) where
-  -- A kernel's picked block was begun and written: its ticket after that, and the kernel without its lane
-  pub record Wrote (old mid : KernelValue L) (answer : Result (Unit {0}) DeviceFault) (ticket : TicketValue L) : Type 0 where
-    pub is : IsKernel bytes crash old.lanes old.state
-    pub written : Writes faults writes old answer ticket mid.state
-    pub holds : HoldsOneOf bytes answer written.home ticket
-    pub away : mid ≡ kernel_with_begun old ticket.block mid.state
-
   pub wrote : (old mid : KernelValue L) (b : ℕ) (first ticket : TicketValue L) (answer : Result (Unit {0}) DeviceFault) → IsKernel bytes crash old.lanes old.state → pick_of old.state ≡ Some b →
       GivesExactly (begun_of old.state b) old.state mid.state (Ok (first.bytes, first.count)) →
       (first.kernel ≡ old.id) × (first.block ≡ b) × (slice_get old.lanes b ≡ Some (Some first.lane)) × (first.unsynced ≡ false) → mid ≡ kernel_with_begun old b mid.state →
       ticket ≡ record first { lane = ticket.lane; unsynced = true } → OnOk answer (bytes ticket.lane ≡ first.bytes) →
       OnErr answer ((bytes ticket.lane ≡ bytes first.lane) ⊎ (bytes ticket.lane ≡ first.bytes)) → OnErr answer (CountsOne (faults first.lane) (faults ticket.lane)) →
-      writes first.lane first.bytes answer ticket.lane → Wrote old mid answer ticket
-  wrote old mid b first ticket answer is picked begins at away landed new either counts gives = subst (λ t. Wrote old mid answer t) (sym landed) (record {
+      writes first.lane first.bytes answer ticket.lane → Wrote bytes crash faults writes old mid answer ticket
+  wrote old mid b first ticket answer is picked begins at away landed new either counts gives = subst (λ t. Wrote bytes crash faults writes old mid answer t) (sym landed) (record {
     is = is;
     written = record {
       picked = picked ∙ ap (λ b. Some b) (sym at.1);

@@ -19,9 +19,9 @@ use Rattle.xn_model.proofs.ForCallers.{map_ok, gives_exactly-ok, place_from, lif
 use Rattle.xn_state.specs.States.{own_types}
 use Rattle.xn_kernel.specs.Kernels.{KernelValue, TicketValue, is_in_flight, is_mine}
 use Rattle.xn_kernel.specs.Drains.{Reads, WriteRelation, with_home}
-use Rattle.xn_kernel.specs.Flushes.{wave_room, kernel_with_begun, IsUnderWay, HoldsOneOf, EndsDurable, EndsOld, StaysUnread, WriteEnds, WaveFirst, Wave, WholeWave, Waves}
+use Rattle.xn_kernel.specs.Flushes.{wave_room, kernel_with_begun, IsUnderWay, HoldsOneOf, EndsDurable, EndsOld, StaysUnread, WriteEnds, Wrote, WaveFirst, Wave, WholeWave, Waves}
 use Rattle.xn_kernel.proofs.Keeping.{own_rules}
-use Rattle.xn_kernel.proofs.Draining.{Began, Wrote, began, choice, chosen, holds_durable, never_err}
+use Rattle.xn_kernel.proofs.Draining.{Began, began, choice, chosen, holds_durable, never_err}
 
 -- What is read back of a write that is under way
 
@@ -341,41 +341,39 @@ module _ {L : Type 0} (bytes : L → List ℕ) (faults : L → ℕ) (writes : Wr
         }
 
     -- it ends
-    pub first_ends_wave : (is_durable : Bool) (new : KernelValue L) (out : List (TicketValue L)) →
-        ((answer : Result (Unit {0}) DeviceFault) (home : L) → HoldsOneOf bytes answer home ticket → WriteEnds bytes faults syncs reads answer home ticket mid between is_durable new out) →
-        (blocks room durable : ℕ) → blocks ≡ suc n → room ≡ suc left → durable ≡ cond is_durable (suc others) others → Wave bytes faults writes syncs reads blocks room durable old before new out
-    first_ends_wave is_durable new out ends blocks room durable block room_is count =
-        subst (λ m. Wave bytes faults writes syncs reads m room durable old before new out) (sym block) (record {
-          answer = answer;
-          ticket = ticket;
-          begun = away.state;
-          written = w.written;
-          left = left;
-          room_is = room_is;
-          others = others;
-          mid = mid;
-          between = between;
-          rest = subst (λ k. Wave bytes faults writes syncs reads n left others k before mid between) w.away rest;
-          is_durable = is_durable;
-          ends = ends answer w.written.home w.holds;
-          counts = count;
-        })
+    pub first_ends_wave : (is_durable : Bool) (new : KernelValue L) (out : List (TicketValue L)) → WriteEnds bytes faults syncs reads answer w.written.home ticket mid between is_durable new out →
+        Wave bytes faults writes syncs reads (suc n) (suc left) (cond is_durable (suc others) others) old before new out
+    first_ends_wave is_durable new out ends = record {
+      answer = answer;
+      ticket = ticket;
+      begun = away.state;
+      written = w.written;
+      left = left;
+      room_is = refl;
+      others = others;
+      mid = mid;
+      between = between;
+      rest = subst (λ k. Wave bytes faults writes syncs reads n left others k before mid between) w.away rest;
+      is_durable = is_durable;
+      ends = ends;
+      counts = refl;
+    }
 
   -- Waves of a flush
 
   -- a wave of no block finds none
-  pub none_begun : (n room durable : ℕ) (old : KernelValue L) (before : List (TicketValue L)) (new : KernelValue L) (after : List (TicketValue L)) → n ≡ 0 → 1 ≤ room →
-      Wave bytes faults writes syncs reads n room durable old before new after → (new ≡ old) × (pick_of old.state ≡ None)
-  none_begun zero room durable old before new after none some w = (w.1, ⊎_elim (λ full. absurd (omega arith)) (λ picked. picked) w.3)
-  none_begun (suc n) room durable old before new after none some w = absurd (omega arith)
+  pub none_begun : (n durable : ℕ) (old new : KernelValue L) (after : List (TicketValue L)) → n ≡ 0 → Wave bytes faults writes syncs reads n wave_room durable old [] new after →
+      (new ≡ old) × (pick_of old.state ≡ None)
+  none_begun zero durable old new after none w = (w.1, ⊎_elim (λ full. absurd (omega arith)) (λ picked. picked) w.3)
+  none_begun (suc n) durable old new after none w = absurd (omega arith)
 
   -- a wave all of whose blocks are made durable
-  module _ (n durable : ℕ) (old : KernelValue L) (before : List (TicketValue L)) (new : KernelValue L) (after : List (TicketValue L)) (rules : IsConsistent (own_types old.state) old.state)
-      (w : Wave bytes faults writes syncs reads n wave_room durable old before new after) (all : durable ≡ n) (some : 1 ≤ n) where
-    abbrev kept_all : WaveKeeps n durable old new before after
-    kept_all = wave_keeps n wave_room durable old before new after rules w
+  module _ (n durable : ℕ) (old new : KernelValue L) (after : List (TicketValue L)) (rules : IsConsistent (own_types old.state) old.state)
+      (w : Wave bytes faults writes syncs reads n wave_room durable old [] new after) (all : durable ≡ n) (some : 1 ≤ n) where
+    abbrev kept_all : WaveKeeps n durable old new [] after
+    kept_all = wave_keeps n wave_room durable old [] new after rules w
 
-    pub none_given_out : after ≡ before
+    pub none_given_out : after ≡ []
     none_given_out = (kept_all.whole all).1
 
     pub same_flights : HaveSameFlights old.state.lives new.state.lives
@@ -384,13 +382,12 @@ module _ {L : Type 0} (bytes : L → List ℕ) (faults : L → ℕ) (writes : Wr
     pub less_pending : all_pending new.state.lives < all_pending old.state.lives
     less_pending = let less = kept_all.pending in omega arith
 
-    pub is_whole : before ≡ [] → WholeWave bytes faults writes syncs reads old new
-    is_whole empty = record {
+    pub is_whole : WholeWave bytes faults writes syncs reads old new
+    is_whole = record {
       blocks = n;
       some = some;
       wave = subst (λ k. Wave bytes faults writes syncs reads n wave_room k old [] new []) all
-          (subst (λ xs. Wave bytes faults writes syncs reads n wave_room durable old xs new []) empty
-          (subst (λ xs. Wave bytes faults writes syncs reads n wave_room durable old before new xs) (none_given_out ∙ empty) w));
+          (subst (λ xs. Wave bytes faults writes syncs reads n wave_room durable old [] new xs) none_given_out w);
     }
 
   pub waves_more : (n : ℕ) (a b c : KernelValue L) → Waves bytes faults writes syncs reads n a b → WholeWave bytes faults writes syncs reads b c → Waves bytes faults writes syncs reads (n + 1) a c

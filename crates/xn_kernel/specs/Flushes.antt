@@ -1,5 +1,7 @@
 -- What a flush does: waves, until nothing is pending or a lane fails. In a wave blocks are picked, begun and written, one after another, and then
--- synced and read back, the last one first. Of a kind of lanes, bytes, faults, writes, syncs and reads say what they say of a drain.
+-- synced and read back, the last one first. Of a kind of lanes, bytes, faults, writes, syncs and reads say what they say of a drain, and crash what a
+-- crash may leave.
+--     WroteAll .. n old tickets new    so many blocks were begun and written, and these are their tickets
 --     WriteEnds .. answer home ticket old before is_durable new after    how the write of a ticket ends, and the tickets that are given out before and after it
 --     Wave .. n room durable old before new after                   a wave of n blocks, so many at most, of which so many are made durable
 --     Waves .. n old new                                            so many waves, all of whose blocks are
@@ -13,12 +15,12 @@ use Rattle.xn_model.specs.declared.refusal.Refusal.{Refusal}
 use Rattle.xn_model.specs.declared.refusal.Refusal.TheVariants.{InFlight, Device, NoMemory}
 use Rattle.xn_model.specs.Calls.{pick_of, settled_of, bytes_at}
 use Rattle.xn_model.specs.Rules.{IsIdle}
-use Rattle.xn_kernel.specs.Kernels.{KernelValue, TicketValue}
+use Rattle.xn_kernel.specs.Kernels.{KernelValue, TicketValue, IsKernel}
 use Rattle.xn_kernel.specs.Drains.{Reads, WriteRelation, Writes, with_home, IsBusy}
 
 -- how many blocks a wave takes at most
 abbrev pub wave_room : ℕ
-wave_room = 256
+wave_room = 4096
 
 -- the kernel once the write of a block is begun
 abbrev pub kernel_with_begun : {L : Type 0} → KernelValue L → ℕ → StoreState → KernelValue L
@@ -40,6 +42,31 @@ pub record IsUnderWay {L : Type 0} (bytes : L → List ℕ) (kernel : KernelValu
 abbrev pub HoldsOneOf : {L : Type 0} → (L → List ℕ) → Result (Unit {0}) DeviceFault → L → TicketValue L → Type 0
 HoldsOneOf bytes answer home ticket =
     (bytes ticket.lane ≡ ticket.bytes) ⊎ ((bytes ticket.lane ≡ bytes home) × ((fault : DeviceFault) × (answer ≡ Err fault)))
+
+-- A kernel's picked block was begun and written: its ticket after that, and the kernel without its lane.
+pub record Wrote {L : Type 0} (bytes : L → List ℕ) (crash : L → List ℕ → Type 0) (faults : L → ℕ) (writes : WriteRelation L)
+    (old new : KernelValue L) (answer : Result (Unit {0}) DeviceFault) (ticket : TicketValue L) : Type 0 where
+  pub is : IsKernel bytes crash old.lanes old.state
+  pub written : Writes faults writes old answer ticket new.state
+  pub holds : HoldsOneOf bytes answer written.home ticket
+  pub away : new ≡ kernel_with_begun old ticket.block new.state
+
+-- The last one of several, behind these tickets.
+pub record WroteLast {L : Type 0} (bytes : L → List ℕ) (crash : L → List ℕ → Type 0) (faults : L → ℕ) (writes : WriteRelation L)
+    (Others : List (TicketValue L) → KernelValue L → Type 0) (tickets : List (TicketValue L)) (new : KernelValue L) : Type 0 where
+  pub others : List (TicketValue L)
+  pub mid : KernelValue L
+  pub before : Others others mid
+  pub answer : Result (Unit {0}) DeviceFault
+  pub ticket : TicketValue L
+  pub wrote : Wrote bytes crash faults writes mid new answer ticket
+  pub behind : tickets ≡ others ++ ticket ∷ []
+
+abbrev pub WroteAll : {L : Type 0} → (L → List ℕ) → (L → List ℕ → Type 0) → (L → ℕ) → WriteRelation L → ℕ → KernelValue L → List (TicketValue L) →
+    KernelValue L → Type 0
+WroteAll {L} bytes crash faults writes zero old tickets new = (tickets ≡ []) × (new ≡ old)
+WroteAll {L} bytes crash faults writes (suc n) old tickets new =
+    WroteLast bytes crash faults writes (WroteAll bytes crash faults writes n old) tickets new
 
 -- The block is synced, the begun bytes are read back, and the write's entries are durable; the write itself may have been answered Err.
 pub record EndsDurable {L : Type 0} (bytes : L → List ℕ) (syncs reads : Reads L) (ticket : TicketValue L) (old new : KernelValue L) : Type 0 where

@@ -1,10 +1,11 @@
 // All that is pending is written, many blocks at a time.
 
-ghost use Rattle.std.specs.Prelude.{◌≡◌, ◌≤◌, ◌<◌, ◌+◌, ℕ, List, Some, None, Result, Ok, Err, IfOk, IfErr, OnOk, IsTrue, vec_len, vec_capacity};
+ghost use Rattle.std.specs.Prelude.{◌≡◌, ◌⊎◌, ◌≤◌, ◌<◌, ◌+◌, ℕ, List, [], None, Result, Ok, Err, IfOk, IfErr, OnOk, IsTrue, vec_len, vec_capacity};
 ghost use Rattle.disk.specs.declared.lane.DeviceFault.{DeviceFault};
+ghost use Rattle.xn_model.specs.Calls.{pick_of};
 ghost use Rattle.xn_model.specs.Rules.{IsIdle};
 ghost use Rattle.xn_model.specs.Worlds.{all_pending};
-ghost use Rattle.xn_kernel.specs.Flushes.{IsUnderWay, HoldsOneOf, WriteEnds, Wave, Waves, FlushRefuses};
+ghost use Rattle.xn_kernel.specs.Flushes.{IsUnderWay, HoldsOneOf, WriteEnds, WroteAll, Wave, Waves, FlushRefuses, wave_room};
 
 use crate::kernel::Kernel;
 use crate::ticket::Ticket;
@@ -13,7 +14,7 @@ use std::alloc::Global;
 use xn_state::Refusal;
 
 /// The most blocks of a wave.
-const WAVE_ROOM: u32 = 256;
+const WAVE_ROOM: u32 = 4096;
 
 /// A flush that stopped: how many waves it finished, why it stopped, and the tickets of blocks that could not be synced or read back.
 pub struct FlushStop<L: Lane> {
@@ -37,7 +38,7 @@ impl<L: Lane> Kernel<L> {
         requires room { vec_len failed.old < vec_capacity failed.old }
         ensures ends { (answer : Result (Unit {0}) DeviceFault) (home : L) → HoldsOneOf L.bytes_of answer home ticket →
             WriteEnds L.bytes_of L.faults_of L.sync_gives L.read_gives answer home ticket self.old failed.old.items result self.new failed.new.items }
-        ensures length { vec_len failed.new ≤ vec_len failed.old + 1 }
+        ensures length { (vec_len failed.old ≤ vec_len failed.new) × (vec_len failed.new ≤ vec_len failed.old + 1) }
         ensures stays { IsTrue result → vec_len failed.new ≡ vec_len failed.old }
         ensures capacity { vec_capacity failed.new ≡ vec_capacity failed.old }
     {
@@ -54,53 +55,59 @@ impl<L: Lane> Kernel<L> {
         }
     }
 
-    /// Begins and writes the blocks that are picked, one after another, so many at most; then syncs each and reads it back, the last
-    /// one first. So where a sync settles all that was written before it, the first one does that for all.
-    fn wave(&mut self, room: u32, failed: &mut Vec<Ticket<L>>) -> WaveEnd
-        requires { vec_len failed.old + room ≤ vec_capacity failed.old }
-        ensures wave { Wave L.bytes_of L.faults_of L.write_gives L.sync_gives L.read_gives result.blocks room result.durable
-            self.old failed.old.items self.new failed.new.items }
-        ensures few { result.blocks ≤ room }
-        ensures durable { result.durable ≤ result.blocks }
-        ensures length { vec_len failed.new + result.durable ≤ vec_len failed.old + result.blocks }
-        ensures capacity { vec_capacity failed.new ≡ vec_capacity failed.old }
+    /// Begins and writes the blocks that are picked, one after another, so many at most. Answers how many, and leaves their tickets.
+    fn begin_wave(&mut self, room: u32, tickets: &mut Vec<Ticket<L>>) -> u32
+        requires empty { vec_len tickets.old ≡ 0 }
+        requires room { room ≤ vec_capacity tickets.old }
+        ensures written { WroteAll L.bytes_of L.crash_leaves L.faults_of L.write_gives result self.old tickets.new.items self.new }
+        ensures few { result ≤ room }
+        ensures most { (result ≡ room) ⊎ (pick_of self.new.state ≡ None) }
+        ensures length { vec_len tickets.new ≡ result }
+        ensures capacity { vec_capacity tickets.new ≡ vec_capacity tickets.old }
     {
-        self.keeps_rules();
-        if room == 0 {
-            return WaveEnd {
-                blocks: 0,
-                durable: 0,
+        for blocks in 0..room {
+            self.keeps_rules();
+            let Some(block) = self.pick() else {
+                return blocks;
             };
-        }
-        let Some(block) = self.pick() else {
-            return WaveEnd {
-                blocks: 0,
-                durable: 0,
+            let Ok(mut ticket) = self.begin(block) else {
+                unreachable!()
             };
-        };
-        let Ok(mut ticket) = self.begin(block) else {
-            unreachable!()
-        };
-        let _landed = ticket.land();
-        let others = self.wave(room - 1, failed);
-        let is_durable = self.end_write(ticket, failed);
-        if is_durable {
-            WaveEnd {
-                blocks: others.blocks + 1,
-                durable: others.durable + 1,
-            }
-        } else {
-            WaveEnd {
-                blocks: others.blocks + 1,
-                durable: others.durable,
-            }
+            let _landed = ticket.land();
+            tickets.push_reserved(ticket);
         }
+        room
     }
 
-    /// Writes all that is pending in waves: begins and writes up to 256 blocks, each as `pick` answers it, then syncs each and reads
+    /// A wave of so many blocks at most, which is room for all that is pending or for `WAVE_ROOM` blocks: begins and writes them, then
+    /// syncs each and reads it back, the last one first. So where a sync settles all that was written before it, the first one does
+    /// that for all. It leaves the tickets of those that could not be synced or read back.
+    fn wave(&mut self, room: u32, tickets: &mut Vec<Ticket<L>>) -> WaveEnd
+        requires empty { vec_len tickets.old ≡ 0 }
+        requires room { room ≤ vec_capacity tickets.old }
+        requires few { room ≤ wave_room }
+        requires serves { (room ≡ wave_room) ⊎ (all_pending self.old.state.lives ≤ room) }
+        ensures wave { Wave L.bytes_of L.faults_of L.write_gives L.sync_gives L.read_gives result.blocks wave_room result.durable
+            self.old [] self.new tickets.new.items }
+        ensures durable { result.durable ≤ result.blocks }
+        ensures length { vec_len tickets.new + result.durable ≤ result.blocks }
+        ensures capacity { vec_capacity tickets.new ≡ vec_capacity tickets.old }
+    {
+        let blocks = self.begin_wave(room, tickets);
+        let mut durable = 0;
+        for ended in 0..blocks {
+            let ticket = tickets.remove((blocks - 1 - ended) as usize);
+            if self.end_write(ticket, tickets) {
+                durable += 1;
+            }
+        }
+        WaveEnd { blocks, durable }
+    }
+
+    /// Writes all that is pending in waves: begins and writes up to 4,096 blocks, each as `pick` answers it, then syncs each and reads
     /// it back, again and again, until nothing is pending. Answers how many waves that took, at most as many as entries were pending.
-    /// With a write under way it is refused (`InFlight`), and so it is where there is no memory for the tickets of a wave that might
-    /// fail (`NoMemory`); both do nothing. A wave in which a lane fails is the last one (`Device`): its other blocks end as they would
+    /// With a write under way it is refused (`InFlight`), and so it is where there is no memory for the tickets of a wave
+    /// (`NoMemory`): as many as entries are pending, or 4,096; both do nothing. A wave in which a lane fails is the last one (`Device`): its other blocks end as they would
     /// otherwise; where a write fails and the block holds the old bytes its entries stay pending; where a block can't be synced or read
     /// back it stays in flight, and the ticket is given out. A write that fails and leaves the new bytes is a good one. What was
     /// finished stands.
@@ -136,7 +143,8 @@ impl<L: Lane> Kernel<L> {
                 refusal: Refusal::InFlight,
             });
         }
-        let Ok(mut failed) = Vec::with_capacity(alloc, WAVE_ROOM as usize) else {
+        let room = WAVE_ROOM.min(self.all_pending());
+        let Ok(mut tickets) = Vec::with_capacity(alloc, room as usize) else {
             return Err(FlushStop {
                 waves: 0,
                 tickets: Vec::new(alloc),
@@ -145,20 +153,20 @@ impl<L: Lane> Kernel<L> {
         };
         for waves in 0..most {
             self.keeps_rules();
-            let end = self.wave(WAVE_ROOM, &mut failed);
+            let end = self.wave(room, &mut tickets);
             if end.blocks == 0 {
-                failed.destroy_empty();
+                tickets.destroy_empty();
                 return Ok(waves);
             }
             if end.durable < end.blocks {
                 return Err(FlushStop {
                     waves,
-                    tickets: failed,
+                    tickets,
                     refusal: Refusal::Device,
                 });
             }
         }
-        failed.destroy_empty();
+        tickets.destroy_empty();
         Ok(most)
     }
 }

@@ -1,4 +1,4 @@
-use Rattle.std.proofs.Common.{◌≡◌, ◌+◌, ◌≤◌, [], vec_len, vec_capacity}
+use Rattle.std.proofs.Common.{◌≡◌, ◌+◌, ◌≤◌, vec_len, vec_capacity}
 use Rattle.xn_model.specs.Rules.{IsIdle}
 use Rattle.xn_model.specs.Worlds.{all_pending}
 use Rattle.xn_kernel.specs.Flushes.{Waves}
@@ -10,7 +10,6 @@ invariant-loop-waves g l = record {
   was_idle : IsIdle l.fn.self.state.lives;
   idle : IsIdle l.self.state.lives;
   few : all_pending l.self.state.lives + l.waves ≤ all_pending l.fn.self.state.lives;
-  none_failed : l.failed.items ≡ [];
-  empty : vec_len l.failed ≡ 0;
-  room : 256 ≤ vec_capacity l.failed;
+  empty : vec_len l.tickets ≡ 0;
+  room : l.room ≤ vec_capacity l.tickets;
 }
