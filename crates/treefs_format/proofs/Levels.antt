@@ -14,6 +14,6 @@ pub next_buckets : (l : ℕ) → 8 ^ (l + 1) ≡ 8 ^ l * 8
 next_buckets l = ap (λ k. 8 ^ k) (let e : l + 1 ≡ suc l = omega arith in e) ∙ pow-suc 8 l
 
 -- at most level 8
-pub few_buckets : (l k : ℕ) → l + k ≡ 8 → 8 ^ l ≤ 16777216
-few_buckets l zero e = subst (λ n. 8 ^ n ≤ 16777216) (let s : 8 ≡ l = omega arith in s) (omega arith)
+pub few_buckets : (l k : ℕ) → l + k ≡ 8 → 8 ^ l ≤ 8 ^ 8
+few_buckets l zero e = subst (λ n. 8 ^ n ≤ 8 ^ 8) (let s : 8 ≡ l = omega arith in s) (omega arith)
 few_buckets l (suc k) e = let more = few_buckets (l + 1) k (omega arith) in let grows = next_buckets l in omega arith

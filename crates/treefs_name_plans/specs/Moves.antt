@@ -3,6 +3,7 @@
 --     Moved, moved_in        the old name, and the directory of the new one
 --     IsTakenReplaced        the end of what has it
 use Rattle.std.specs.Prelude.{◌≡◌, ℕ, zero, suc, ◌==◌, Bool, false, true, not, ◌&&◌, List, Option, None, Some, Result, Ok, Err, MatchBool, MatchResult, if◌then◌else◌}
+use Rattle.xn_model.specs.Images.{most_blocks}
 use Rattle.xn_model.specs.Lives.{StoreState}
 use Rattle.treefs_format.specs.Names.{is_name}
 use Rattle.treefs_format.specs.declared.kind.Kind.{Kind}
@@ -48,7 +49,7 @@ is_below content top n (suc steps) d =
 
 -- each is a block, and no store has more
 abbrev pub most_above : ℕ
-most_above = 32768
+most_above = most_blocks
 
 -- The old name
 

@@ -19,7 +19,7 @@ use treefs_model::Fault;
 use xn_state::Store;
 
 /// How many directories stand above one at most: each is a block, and no store has more.
-const MOST_ABOVE: u32 = 32_768;
+const MOST_ABOVE: u32 = 1_048_576;
 
 /// Whether an inode is a directory.
 pub fn is_directory(kind: Kind) -> bool

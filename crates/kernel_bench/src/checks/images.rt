@@ -2,10 +2,10 @@
 
 use ffs_format::templates;
 use std::alloc::{AllocError, Global};
-use templates::{MAX_BLOCKS, format_image};
+use templates::{MAX_FORMAT_BLOCKS, format_image};
 
 /// How many blocks the disk has.
-const COUNT: usize = MAX_BLOCKS as usize;
+const COUNT: usize = MAX_FORMAT_BLOCKS as usize;
 
 /// The first block behind those of the templates.
 const FIRST: usize = 4;
@@ -31,7 +31,7 @@ fn put(image: &mut [u8], block: usize, offset: usize, number: usize) {
 
 /// The disk, with no root.
 fn bare_image(alloc: Global) -> Result<Vec<u8>, AllocError> {
-    match format_image(alloc, MAX_BLOCKS, &templates(alloc)?) {
+    match format_image(alloc, MAX_FORMAT_BLOCKS, &templates(alloc)?) {
         Ok(image) => Ok(image),
         Err(_) => Err(AllocError),
     }

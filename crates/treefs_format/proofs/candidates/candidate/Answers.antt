@@ -4,7 +4,7 @@ use Rattle.treefs_format.proofs.Levels.{buckets_of, few_buckets}
 use Rattle.treefs_format.proofs.candidates.candidate.Goals as goal
 
 -- of a level up to 8, so few buckets, and so few before them
-few : (l first buckets : ℕ) → l ≤ 8 → first ≡ first_bucket l → buckets ≡ 8 ^ l → (buckets ≤ 16777216) × (7 * first + 1 ≡ buckets)
+few : (l first buckets : ℕ) → l ≤ 8 → first ≡ first_bucket l → buckets ≡ 8 ^ l → (buckets ≤ 8 ^ 8) × (7 * first + 1 ≡ buckets)
 few l first buckets low f b =
     let more = few_buckets l (8 - l) (omega arith) in
     let all = buckets_of l in (omega arith, omega arith)
