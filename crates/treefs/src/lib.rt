@@ -16,4 +16,5 @@ mod writing_times;
 
 pub use attributes::Attributes;
 pub use block_types::BlockTypes;
+pub use trimming::trim_first;
 pub use volume::Volume;

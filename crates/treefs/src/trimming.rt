@@ -122,7 +122,7 @@ pub fn trim_to<S: Store>(
     wait_for_path(alloc, store, tree, kept)
 }
 
-/// Trims an inode, if one is told.
+/// Trims an inode, if one is told. The faults are `Full` and `Kernel`, as of `Volume::trim`.
 pub fn trim_first<S: Store>(
     alloc: Global,
     store: &mut S,

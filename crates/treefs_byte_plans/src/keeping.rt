@@ -25,7 +25,7 @@ pub fn kept_up_to(inode: u32, size: u64) -> Kept
 }
 
 /// What is kept of a file where something stands past its size.
-pub(crate) fn find_untrimmed<S: Store>(store: &S, fs: Fs, file: &Found) -> Option<Kept>
+pub fn find_untrimmed<S: Store>(store: &S, fs: Fs, file: &Found) -> Option<Kept>
     ensures kept { IsUntrimmed (readable (S.state_of store.now) fs.number) file.now result }
     ensures few { HasFewLeaves result }
 {

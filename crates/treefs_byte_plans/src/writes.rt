@@ -150,8 +150,9 @@ fn plan_leaves<'a, S: Store>(
     plan_leaf(store, tree, memory, file, leaf, at, first_piece(at, bytes))
 }
 
-/// What the next of some bytes take.
-fn plan_piece<'a, S: Store>(
+/// What the next piece of some bytes takes, from a byte of a file or a symbolic link on: those that stand together with the first of them, or as many as the
+/// leaves take that are missing from there on. The fault is `Full` where there is no room. Where the size rises nothing may stand past it.
+pub fn plan_piece<'a, S: Store>(
     store: &S,
     tree: Tree,
     memory: &Memory,
@@ -195,9 +196,8 @@ fn find_written<S: Store>(store: &S, tree: Tree, number: u32, at: u64) -> Result
     Ok(file)
 }
 
-/// What the next piece of a write of bytes takes, from a byte of a file or a symbolic link on: those that stand together with the first of them, or as many
-/// as the leaves take that are missing from there on. The faults are `NoEntry`, `IsDir`, `TooLarge` at or past the greatest size, and `Full` where there is
-/// no room. Where the size rises nothing may stand past it.
+/// What the next piece of a write of bytes takes, as `plan_piece` plans it, from a byte of the inode of a number on. The faults are `NoEntry`, `IsDir`,
+/// `TooLarge` at or past the greatest size, and those of `plan_piece`.
 pub fn plan_write<'a, S: Store>(
     store: &S,
     tree: Tree,

@@ -24,15 +24,12 @@ no_mode = refl
 pub none_found : (block : ℕ) → found_in block [] ≡ Err NoEntry
 none_found block = ap (λ m. found_kind block (fields_of []) (kind_of m)) no_mode
 
-module _ (content : ℕ → List ℕ) (top n block : ℕ) (is : block ≡ inode_block content top n) where
-  pub not_there : block ≡ 0 → inode_found content top n ≡ Err NoEntry
-  unfolding inode_found
-  not_there none = ap (found_block content) (sym is ∙ none)
+module _ (content : ℕ → List ℕ) (block : ℕ) where
+  pub not_there : block ≡ 0 → found_block content block ≡ Err NoEntry
+  not_there none = ap (found_block content) none
 
-  pub there : (bytes : List ℕ) → block ≢ 0 → content block ≡ bytes → inode_found content top n ≡ found_in block bytes
-  unfolding inode_found
-  there bytes some are =
-      ap (found_block content) (sym is) ∙ (ap (λ (t : Bool). if t then Err NoEntry else found_in block (content block)) (ne_eqb block 0 some) ∙ ap (found_in block) are)
+  pub there : (bytes : List ℕ) → block ≢ 0 → content block ≡ bytes → found_block content block ≡ found_in block bytes
+  there bytes some are = ap (λ (t : Bool). if t then Err NoEntry else found_in block (content block)) (ne_eqb block 0 some) ∙ ap (found_in block) are
 
 pub kind_found : (block : ℕ) (bytes : List ℕ) (fields : Fields) (kind : Option Kind) → fields ≡ fields_of bytes → kind ≡ kind_of fields.mode →
     found_in block bytes ≡ found_kind block fields kind
@@ -50,7 +47,8 @@ no_block content top n none true = refl
 no_block content top n none false = block_none content top none (steps (leaf_of_inode n)) (steps_some (leaf_of_inode n))
 
 no_inodes : (content : ℕ → List ℕ) (top n : ℕ) → content top ≡ [] → inode_found content top n ≡ Err NoEntry
-no_inodes content top n none = not_there content top n (inode_block content top n) refl (no_block content top n none ((n == 0) || nat_lt leaf_count n))
+unfolding inode_found
+no_inodes content top n none = not_there content (inode_block content top n) (no_block content top n none ((n == 0) || nat_lt leaf_count n))
 
 pub no_directories : (content : ℕ → List ℕ) (top n : ℕ) → content top ≡ [] → directory_found content top n ≡ Err NoEntry
 no_directories content top n none = ap (λ (r : Result Found Fault). and_then r (λ found. if_directory found found.kind)) (no_inodes content top n none)

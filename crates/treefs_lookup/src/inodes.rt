@@ -1,7 +1,7 @@
 // Inodes by their numbers.
 
 ghost use Rattle.std.specs.Prelude.{◌≡◌, Ok};
-ghost use Rattle.treefs_lookup.specs.Inodes.{directory_found, file_found, inode_found, link_found};
+ghost use Rattle.treefs_lookup.specs.Inodes.{directory_found, file_found, found_block, inode_found, link_found};
 ghost use Rattle.treefs_lookup.specs.Readable.{readable};
 ghost use Rattle.treefs_model.specs.Reading.{inode_block};
 
@@ -34,11 +34,10 @@ pub fn inode_block<S: Store>(store: &S, fs: Fs, top: u32, number: u32) -> u32
     leaf_block(store, fs, top, roots::inode_leaf(number))
 }
 
-/// The inode of a number. The fault is `NoEntry`.
-pub fn find_inode<S: Store>(store: &S, fs: Fs, top: u32, number: u32) -> Result<Found, Fault>
-    ensures { result ≡ inode_found (readable (S.state_of store.now) fs.number) top number }
+/// The inode that a block is. The fault is `NoEntry`.
+pub fn find_block<S: Store>(store: &S, fs: Fs, block: u32) -> Result<Found, Fault>
+    ensures { result ≡ found_block (readable (S.state_of store.now) fs.number) block }
 {
-    let block = inode_block(store, fs, top, number);
     if block == 0 {
         return Err(Fault::NoEntry);
     }
@@ -54,6 +53,15 @@ pub fn find_inode<S: Store>(store: &S, fs: Fs, top: u32, number: u32) -> Result<
         }),
         None => Err(Fault::NoEntry),
     }
+}
+
+/// The inode of a number. The fault is `NoEntry`.
+#[tactic(auto, unfolding(crate::specs::Inodes::inode_found))]
+pub fn find_inode<S: Store>(store: &S, fs: Fs, top: u32, number: u32) -> Result<Found, Fault>
+    ensures { result ≡ inode_found (readable (S.state_of store.now) fs.number) top number }
+{
+    let block = inode_block(store, fs, top, number);
+    find_block(store, fs, block)
 }
 
 /// The directory of a number. The faults are `NoEntry` where there is no inode, `NotDir`, and `NoEntry` where it has no link any more.

@@ -19,7 +19,9 @@ pub use blocks::{pointer_at, read_block};
 pub use bucket::Bucket;
 pub use buckets::read_bucket;
 pub use bytes::{part_left, read, read_bytes, read_link};
-pub use inodes::{Found, find_directory, find_file, find_inode, find_link, inode_block};
+pub use inodes::{
+    Found, find_block, find_directory, find_file, find_inode, find_link, inode_block,
+};
 pub use leaves::{Leaf, next_leaf};
 pub use names::{Slot, find_entry, find_name, read_key};
 pub use numbers::find_number;

@@ -5,7 +5,8 @@ ghost use Rattle.std.specs.List.{list_all};
 ghost use Rattle.treefs_lookup.specs.Readable.{readable};
 ghost use Rattle.treefs_edits.specs.Rooms.{has_room_in};
 ghost use Rattle.treefs_name_plans.specs.Ends.{IsWithin};
-ghost use Rattle.treefs_name_plans.specs.RenamePlans.{IsMovePlanned, IsRenamePlanned, apart_in_room, leads_to, linked_in_room, links_between, old_offset, planned_move, rename_in, replaced_parts, rewritten_offset, stands_in, together_in_room};
+ghost use Rattle.treefs_name_plans.specs.RenamePlans.{IsMovePlanned, IsRenamePlanned, apart_in_room, leads_to, linked_in_room, links_between};
+ghost use Rattle.treefs_name_plans.specs.RenamePlans.{old_offset, planned_move, rename_in, replaced_parts, rewritten_offset, stands_in, together_in_room};
 
 use crate::addition::{Addition, OldBucket};
 use crate::link::{find_holder_of, more_links};

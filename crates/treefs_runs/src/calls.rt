@@ -10,9 +10,11 @@ use std::alloc::{AllocError, Global};
 use std::thread::Threads;
 use treefs::{Attributes, Volume};
 use treefs_byte_plans::{Attributes as Settings, Owner};
+use treefs_check::check;
 use treefs_format::Kind;
 use treefs_lookup::{find_entry, find_inode, read, read_link};
 use treefs_model::Fault;
+use treefs_puts::append;
 use xn_state::Store;
 
 /// The most bytes that stand in an inode's own block.
@@ -116,12 +118,20 @@ fn call<S: Store>(
 ) -> Result<(), AllocError> {
     match asked.verb {
         Verb::Make(make) => told.answer(self::make(alloc, store, volume, make, asked)),
-        Verb::Symlink => symlink(alloc, store, volume, asked, told),
+        Verb::Symlink => {
+            let made = put(alloc, store, volume, asked, Kind::SymbolicLink, 0o777);
+            told.answer(made);
+        }
         Verb::Change(change) => told.done(self::change(alloc, store, volume, change, asked)),
         Verb::Write => {
             let (inode, at) = (asked.number(1), asked.size(2));
             told.written(volume.write_some(alloc, store, inode, at, &asked.bytes));
         }
+        Verb::More => {
+            let block = asked.number(1);
+            told.written(append(alloc, store, volume, block, &asked.bytes));
+        }
+        Verb::Check => told.checked(&check(alloc, store, volume.tree)?),
         Verb::Look(look) => return self::look(alloc, store, volume, look, asked, told),
         Verb::Time => {
             volume.memory.clock = asked.time(1);
@@ -158,10 +168,7 @@ fn make<S: Store>(
             let replace = asked.says(4, "replace");
             volume.commit(alloc, store, first, asked.number(2), &asked.name, replace)
         }
-        Make::Put => {
-            let block = begin(store, volume, asked)?;
-            volume.commit(alloc, store, block, first, &asked.name, true)
-        }
+        Make::Put => put(alloc, store, volume, asked, Kind::File, 0o644),
     }
 }
 
@@ -173,26 +180,65 @@ fn begin<S: Store>(store: &mut S, volume: &Volume, asked: &Asked) -> Result<u32,
     volume.begin(store, Kind::File, attributes(0o644), &asked.bytes)
 }
 
-/// Makes a symbolic link with a short target.
-fn symlink<S: Store>(
+/// Begins an inode, writes all its bytes piece by piece, and gives it a name. Where one of these calls is refused, the inode is given up.
+fn put<S: Store>(
     alloc: Global,
     store: &mut S,
     volume: &mut Volume,
     asked: &Asked,
-    told: &mut Text,
-) {
-    if asked.bytes.len() > MOST_BYTES {
-        return told.put("a long target");
+    kind: Kind,
+    permissions: u16,
+) -> Result<u32, Fault>
+    requires { permissions < 4096 }
+{
+    let length = asked.bytes.len().min(MOST_BYTES);
+    let (head, rest) = asked.bytes.split_at(length);
+    let block = volume.begin(store, kind, attributes(permissions), head)?;
+    match write_and_name(alloc, store, volume, asked, kind, block, rest) {
+        Ok(number) => Ok(number),
+        Err(fault) => {
+            let _given_up = volume.give_up(alloc, store, block);
+            Err(fault)
+        }
     }
-    let (directory, attributes) = (asked.number(1), attributes(0o777));
-    told.answer(volume.symlink(
-        alloc,
-        store,
-        directory,
-        &asked.name,
-        attributes,
-        &asked.bytes,
-    ));
+}
+
+/// Writes what is left of an inode that was begun, and gives it a name, where a file takes the place of another.
+fn write_and_name<S: Store>(
+    alloc: Global,
+    store: &mut S,
+    volume: &mut Volume,
+    asked: &Asked,
+    kind: Kind,
+    block: u32,
+    rest: &[u8],
+) -> Result<u32, Fault> {
+    append_all(alloc, store, volume, block, rest)?;
+    let replace = match kind {
+        Kind::File => true,
+        Kind::Directory | Kind::SymbolicLink => false,
+    };
+    let directory = asked.number(1);
+    volume.commit(alloc, store, block, directory, &asked.name, replace)
+}
+
+/// Writes bytes behind the end of an inode that was begun, piece by piece.
+fn append_all<S: Store>(
+    alloc: Global,
+    store: &mut S,
+    volume: &Volume,
+    block: u32,
+    bytes: &[u8],
+) -> Result<(), Fault> {
+    let mut rest = bytes;
+    for _piece in 0..bytes.len() {
+        if rest.is_empty() {
+            return Ok(());
+        }
+        let taken = append(alloc, store, volume, block, rest)?;
+        rest = rest.get(taken..).unwrap_or(&[]);
+    }
+    Ok(())
 }
 
 /// Changes names, bytes or attributes.

@@ -2,6 +2,7 @@
 
 use crate::text::Text;
 use treefs::Volume;
+use treefs_check::Finding;
 use treefs_edits::Times;
 use treefs_edits::memory::touched_times;
 use treefs_format::Records;
@@ -15,6 +16,15 @@ impl Text {
         match answer {
             Ok(()) => self.put("ok"),
             Err(fault) => self.fault(fault),
+        }
+    }
+
+    /// Whether a check found nothing, or how much.
+    pub fn checked(&mut self, findings: &[Finding]) {
+        if findings.is_empty() {
+            self.put("good");
+        } else {
+            self.size("faults ", findings.len() as u64);
         }
     }
 

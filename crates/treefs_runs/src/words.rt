@@ -12,6 +12,8 @@ pub enum Verb {
     Symlink,
     Change(Change),
     Write,
+    More,
+    Check,
     Look(Look),
     Time,
     Wave,
@@ -58,7 +60,7 @@ pub enum Look {
 type Form = (&'static str, usize, Verb, usize, usize, usize);
 
 /// The lines that are calls.
-static FORMS: [Form; 30] = [
+static FORMS: [Form; 32] = [
     ("mkfs", 3, Verb::Mkfs, 0, 0, 0),
     ("create", 3, Verb::Make(Make::Create), 2, 0, 0),
     ("create", 4, Verb::Make(Make::Create), 2, 0, 0),
@@ -73,6 +75,7 @@ static FORMS: [Form; 30] = [
     ("commit", 5, Verb::Make(Make::Commit), 3, 0, 0),
     ("put", 4, Verb::Make(Make::Put), 2, 0, 3),
     ("write", 4, Verb::Write, 0, 0, 3),
+    ("more", 4, Verb::More, 0, 0, 3),
     ("truncate", 3, Verb::Change(Change::Truncate), 0, 0, 0),
     ("trim", 2, Verb::Change(Change::Trim), 0, 0, 0),
     ("reap", 1, Verb::Change(Change::Reap), 0, 0, 0),
@@ -86,6 +89,7 @@ static FORMS: [Form; 30] = [
     ("readdir", 2, Verb::Look(Look::Readdir), 0, 0, 0),
     ("read", 4, Verb::Look(Look::Read), 0, 0, 0),
     ("readlink", 2, Verb::Look(Look::Readlink), 0, 0, 0),
+    ("check", 1, Verb::Check, 0, 0, 0),
     ("time", 2, Verb::Time, 0, 0, 0),
     ("wave", 1, Verb::Wave, 0, 0, 0),
     ("flush", 1, Verb::Flush, 0, 0, 0),

@@ -1,0 +1,17 @@
+use Rattle.std.proofs.Common.{arith}
+use Rattle.treefs_format.specs.Left.{record_of, records_left}
+use Rattle.treefs_format.specs.Records.{entries_of}
+use Rattle.treefs_mending.proofs.LiveNames.{first_offset}
+use Rattle.treefs_check.proofs.names.push_unfound_in.Goals as goal
+
+pub overflow_add-offset : goal.overflow_add-offset
+overflow_add-offset g c =
+    let left = c.loop-record.record-iterator in
+    let same = first_offset left.offset (entries_of left.rest.now) (record_of c.in-Some.record) (records_left c.next.new.self) c.in-Some.ensures.steps in
+    omega (arith, c.args.bucket.now.within, left.within, same)
+
+pub overflow_cast-offset : goal.overflow_cast-offset
+overflow_cast-offset g c =
+    let left = c.loop-record.record-iterator in
+    let same = first_offset left.offset (entries_of left.rest.now) (record_of c.in-Some.record) (records_left c.next.new.self) c.in-Some.ensures.steps in
+    omega (arith, c.args.bucket.now.within, left.within, same)

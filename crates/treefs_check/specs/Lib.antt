@@ -1,0 +1,4 @@
+pub mod Findings
+pub mod Names
+pub mod Inodes
+pub mod Checking

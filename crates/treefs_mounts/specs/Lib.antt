@@ -1,0 +1,4 @@
+pub mod Flushing
+pub mod Closing
+pub mod Passes
+pub mod Opening

@@ -1,0 +1,8 @@
+//! Writes files and symbolic links of a file system of trees piece by piece, before they have a name.
+//! May touch: memory.
+#![tactic(auto)]
+
+mod appending;
+mod begun;
+
+pub use appending::append;
