@@ -8,7 +8,7 @@ use Rattle.treefs.specs.declared.volume.Volume.{Volume}
 use Rattle.treefs_mounts.specs.Opening.{Repeats, RoundDoes, most_rounds}
 use Rattle.treefs_mounts.specs.declared.passes.Pass.{Pass}
 
-pub rounds_are : most_rounds ≡ 65536
+pub rounds_are : most_rounds ≡ 2097152
 unfolding most_rounds
 rounds_are = refl
 

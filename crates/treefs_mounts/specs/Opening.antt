@@ -46,7 +46,7 @@ Repeats of T (suc left) old new volume volume' result =
 
 -- twice for each block of the largest disk: a pass that begins where nothing is pending, and is full, has made 54 edits in some block, or 4,000 in all
 unfoldable pub most_rounds : ℕ
-most_rounds = 65536
+most_rounds = 2097152
 
 abbrev pub MakesPasses : Types → StoreState → StoreState → Volume → Volume → Result (Unit {0}) Fault → Type 0
 MakesPasses T old new volume volume' result =

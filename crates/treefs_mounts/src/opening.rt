@@ -14,7 +14,7 @@ use treefs_model::Fault;
 
 /// How often a pass is made at most: twice for each block of the largest disk. A pass that begins where nothing is pending, and is full, has made 54 edits in
 /// some block, or 4,000 in all.
-const MOST_ROUNDS: u32 = 65_536;
+const MOST_ROUNDS: u32 = 2_097_152;
 
 /// Whether a pass is done; where it was full it is not.
 fn done_or_full(made: Result<(), Fault>) -> Result<bool, Fault>
@@ -99,7 +99,7 @@ fn prepare<S: FlushStore>(alloc: Global, store: &mut S, volume: &mut Volume) -> 
 /// one is mended: names that are one too many end; then buckets are rewritten without dead records, links and parents become what the names say, what stands
 /// past a size goes, and inodes that no name leads to are freed. All that is written, too, before the volume is answered. The faults are, in this order,
 /// `NoEntry` where the file system has no root of the type of inodes with the mark of a volume and an inode 1; where the volume was not closed, `NotDir` where
-/// inode 1 is no directory, and `NoEntry` where it is no inode or has no link; `Full` where a pass was made 65,536 times and is not done. `Kernel` comes for
+/// inode 1 is no directory, and `NoEntry` where it is no inode or has no link; `Full` where a pass was made 2,097,152 times and is not done. `Kernel` comes for
 /// want of memory, or where the store refuses an edit or a flush; then it is called again.
 pub fn open<S: FlushStore>(
     alloc: Global,
