@@ -143,7 +143,7 @@ def describe_block(block, kind, templates):
 def check(image):
     """How many blocks of an image are reached."""
     count = len(image) // BLOCK
-    if len(image) % BLOCK or not 32 <= count <= 32768:
+    if len(image) % BLOCK or not 32 <= count <= 1048576:
         raise ImageFault("2 BadLength")
     if image[:4] != b"XN97":
         raise ImageFault("3 BadMark")

@@ -65,7 +65,7 @@ BUILT_IN = {0: (words_of(CATALOGUE), words_of("SET 0 328;")), 1: DATA, 2: DATA}
 def check(image):
     """The reached blocks with their types, breadth first, and the others, rising."""
     count = len(image) // 512
-    if len(image) % 512 or not 32 <= count <= 32768:
+    if len(image) % 512 or not 32 <= count <= 1048576:
         raise Fault("2 BadLength")
     blocks = [image[512 * b : 512 * b + 512] for b in range(count)]
     if blocks[0][:4] != b"XN97":
