@@ -21,6 +21,7 @@ ghost use Rattle.block_cache.specs.Views.{image_at, HasImage, facts_of, pending_
 use crate::claim::Claim;
 use crate::entry::Entry;
 use crate::life::{Change, Facts, FoundLife, Life};
+use crate::live_block::LiveBlock;
 use crate::lives::Lives;
 use crate::named_places::NamedPlaces;
 use crate::new_bytes::NewBytes;
@@ -123,11 +124,12 @@ impl Cache {
         self.lives.blocks()
     }
 
-    /// Whether there is a block of this number.
-    fn has_block(&self, block: u32) -> bool
-        ensures { result ≡ is_some (slice_get self.now block) }
+    /// The life of a block, unless it is free or past the end.
+    pub fn live(&self, block: u32) -> Option<LiveBlock<'_>>
+        ensures { result ≡ life_at self.now block }
     {
-        block < self.blocks()
+        let life = self.lives.life(block)?;
+        Some(LiveBlock::of(life, &self.entries))
     }
 
     /// What is known of a block in use beside its bytes. At most 64 entries are pending.
@@ -136,18 +138,8 @@ impl Cache {
         ensures few { IfSome result (λ facts. facts.pending ≤ 64) }
         ensures begun { IfSome result (λ facts. IsCount facts.begun facts.pending) }
     {
-        let life = self.lives.life(block)?;
+        let life = self.live(block)?;
         Some(life.facts())
-    }
-
-    /// What is known of a block, which may be free: `None` where there is no block of this number.
-    pub fn place(&self, block: u32) -> Option<Option<Facts>>
-        ensures { result ≡ option_map (option_map facts_of) (slice_get self.now block) }
-    {
-        if !self.has_block(block) {
-            return None;
-        }
-        Some(self.facts(block))
     }
 
     /// How many entries of a block are pending, at most 64.
@@ -176,23 +168,12 @@ impl Cache {
         self.lives.in_flight() > 0
     }
 
-    /// Whether a block is in use and belongs to a file system.
-    pub fn is_for(&self, block: u32, fs: Fs) -> bool
-        ensures { result ≡ alive_and (λ l. is_for fs.number l.fs) (life_at self.now block) }
-    {
-        match self.lives.life(block) {
-            Some(life) => life.is_for(fs),
-            None => false,
-        }
-    }
-
     /// What the pending entry at a place says, the oldest at 0.
     pub fn claim(&self, block: u32, place: usize) -> Option<&Claim>
         ensures { option_copied result ≡ option_map claim_of (slice_get (pending_at (life_at self.now block)) place) }
     {
-        let life = self.lives.life(block)?;
-        let entry = entry_at(&self.entries, life.keys(), place)?;
-        Some(&entry.claim)
+        let life = self.live(block)?;
+        life.claim(place)
     }
 
     /// Whether block 0 has a type on the disk: it is built in, or the catalogue there names its template.
@@ -202,14 +183,6 @@ impl Cache {
         self.named.has_type(ty)
     }
 
-    /// The newest bytes of a block in use.
-    pub fn current(&self, block: u32) -> Option<&[u8; 512]>
-        ensures { option_copied result ≡ option_map current (life_at self.now block) }
-    {
-        let life = self.lives.life(block)?;
-        Some(life.current())
-    }
-
     /// The bytes of a block in use with only its first pending entries done.
     pub fn image_of(&self, block: u32, count: u32) -> Option<[u8; 512]>
         requires { IfSome (life_at self.now block) (HasImage count) }
@@ -217,17 +190,6 @@ impl Cache {
     {
         let life = self.lives.life(block)?;
         Some(rollback::image_of(&self.entries, life, count as usize))
-    }
-
-    /// Whether a block in use has these bytes with only its first pending entries done.
-    pub fn has_image(&self, block: u32, count: u32, bytes: &[u8; 512]) -> bool
-        requires { IfSome (life_at self.now block) (HasImage count) }
-        ensures { result ≡ alive_and (λ l. bytes_eq bytes.now (image_at count l)) (life_at self.now block) }
-    {
-        match self.lives.life(block) {
-            Some(life) => rollback::is_image(&self.entries, life, count as usize, bytes),
-            None => false,
-        }
     }
 
     /// What the first pending entries of a block in use leave.
@@ -346,14 +308,6 @@ fn named_in(found: &[Option<FoundLife>], blocks: &[[u8; 512]]) -> NamedPlaces
         Some(Some(_)) => NamedPlaces::of(&blocks[0]),
         _ => NamedPlaces::none(),
     }
-}
-
-/// The entry under the key at a place.
-fn entry_at<'a>(entries: &'a Slab<Entry>, keys: &[usize], place: usize) -> Option<&'a Entry>
-    ensures { option_copied result ≡ option_and_then (get entries.now) (slice_get keys.now place) }
-{
-    let key = keys.get(place)?;
-    entries.get(*key)
 }
 
 /// Forgets the first entries of a life.

@@ -1,9 +1,8 @@
 -- What edits may claim, by the tests that they passed, and the claims of an edit, read off the statuses.
 use Rattle.std.proofs.Common.{◌≡◌, ℕ, ◌<◌, Bool, true, false, not, ◌&&◌, List, [], ◌∷◌, length, Option, Some, None, Ok, refl, sym, ◌∙◌, ap, arith, inl, inr, subst}
-use Rattle.std.specs.Prelude.{Contains, is_some, option_map, ◌==◌}
+use Rattle.std.specs.Prelude.{Contains, is_some, ◌==◌}
 use Rattle.std.specs.List.{list_all}
 use Rattle.std.proofs.lemmas.Bool.{and_parts, eqb-false, ne_eqb, not-false}
-use Rattle.std.proofs.lemmas.Option.{same_Some}
 use Rattle.std.proofs.lemmas.List.Elements.{Contains-append_right}
 use Rattle.xn_model.specs.declared.refusal.Refusal.{Refusal}
 use Rattle.xn_model.specs.declared.refusal.Refusal.TheVariants.{BadPatch, BadAfter, NotFresh, NotOwned, NotEmpty, ClaimWrong, SizeWrong, TooManyPending, Exhausted, Cycle}
@@ -11,7 +10,7 @@ use Rattle.xn_model.specs.Lists.{blocks_of, distinct, has_number}
 use Rattle.xn_model.specs.Types.{Types, claims, named_once, within_size}
 use Rattle.xn_model.specs.Root.{owned_by_root, templates_of, roots_of, with_slot}
 use Rattle.xn_model.specs.Lives.{Life, StoreState, life_at, alive_and, chain_end, current, is_for, is_fresh, is_owned_by}
-use Rattle.xn_model.specs.Results.{first_refusal, unless, result_map, result_and_then}
+use Rattle.xn_model.specs.Results.{first_refusal, unless, result_and_then}
 use Rattle.xn_model.specs.Calls.{Edit, own_life, too_many, exhausted, within_limits, was_given, may_add, may_drop, is_empty, owns_nothing, patched, life_bytes, life_pending, root_now, slot_now, edit_tests}
 use Rattle.xn_model.specs.Rules.{IsConsistent}
 use Rattle.xn_model.proofs.ForCallers.{Contains-cons, Contains-none, all_at, blocks_of_at, own_then, roots_from, same_ok, unless_ok}
@@ -21,7 +20,7 @@ use Rattle.block_cache.specs.declared.life.Facts.{Facts}
 use Rattle.block_cache.specs.Views.{facts_of}
 use Rattle.claims.specs.Owned.{MayClaim}
 use Rattle.xn_state.specs.Proposals.{drop_root_plan, edited_with, proposed_at, proposed_of}
-use Rattle.xn_state.proofs.Forgetting.{own_facts, own_is}
+use Rattle.xn_state.proofs.Forgetting.{own_is}
 
 -- Edits
 
@@ -153,11 +152,8 @@ edited_is T state fs b e l h alive =
     (not (claims T l.ty (current l) m e.adds e.drops && named_once T l.ty m)) (not (within_size T l.ty m))
     (λ added dropped. ap not (claim_is T state fs b e l h alive added dropped)))
 
-pub proposed_is : (T : Types) (state : StoreState) (fs b : ℕ) (e : Edit) (facts : Facts) (old : List ℕ) → IsConsistent T state → Ok facts ≡ result_map facts_of (own_life state fs b) →
-    Some old ≡ option_map current (life_at state.lives b) → edited_with T state fs b e facts old ≡ proposed_of T state fs b e
-proposed_is T state fs b e facts old h known bytes =
-    let own = own_facts (own_life state fs b) facts known in
-    let l : Life = own.0 in
-    let alive = (own_is state fs b l own.1).alive in
-    let same = same_Some old (current l) (bytes ∙ ap (option_map current) alive) in
-    (λ i. edited_with T state fs b e (sym own.2 i) (same i)) ∙ (edited_is T state fs b e l h alive ∙ sym (ap (result_and_then (proposed_at T state fs b e)) own.1))
+pub proposed_is : (T : Types) (state : StoreState) (fs b : ℕ) (e : Edit) (l : Life) (facts : Facts) (old : List ℕ) → IsConsistent T state → own_life state fs b ≡ Ok l →
+    facts ≡ facts_of l → old ≡ current l → edited_with T state fs b e facts old ≡ proposed_of T state fs b e
+proposed_is T state fs b e l facts old h own known same =
+    let alive = (own_is state fs b l own).alive in
+    (λ i. edited_with T state fs b e (known i) (same i)) ∙ (edited_is T state fs b e l h alive ∙ sym (ap (result_and_then (proposed_at T state fs b e)) own))

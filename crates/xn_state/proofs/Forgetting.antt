@@ -1,23 +1,17 @@
 -- What a forget leaves.
-use Rattle.std.proofs.Common.{◌≡◌, ℕ, Option, Some, None, Result, Ok, Err, refl, sym, ap, slice_set, subst}
+use Rattle.std.proofs.Common.{◌≡◌, ℕ, Option, Some, None, Result, Ok, Err, refl, ap, slice_set, subst}
 use Rattle.std.specs.Prelude.{IsTrue}
 use Rattle.xn_model.specs.declared.refusal.Refusal.{Refusal}
 use Rattle.xn_model.specs.Types.{Types}
 use Rattle.xn_model.specs.Lives.{StoreState, Life, Lives}
-use Rattle.xn_model.specs.Results.{unless, result_map, result_and_then}
+use Rattle.xn_model.specs.Results.{unless, result_and_then}
 use Rattle.xn_model.specs.Calls.{own_life, forget_refusal, forget_at, forget_of}
 use Rattle.xn_model.specs.Rules.{IsConsistent, Keeps}
-use Rattle.xn_model.proofs.ForCallers.{IsOwn, map_ok, same_ok, never_ok, own_then, forget_keeps}
+use Rattle.xn_model.proofs.ForCallers.{IsOwn, same_ok, never_ok, own_then, forget_keeps}
 use Rattle.xn_state.specs.Forgets.{forget_plan, forget_plan_at}
-use Rattle.block_cache.specs.declared.life.Facts.{Facts}
-use Rattle.block_cache.specs.Views.{facts_of}
 use Rattle.xn_state.proofs.Keeping.{state_of}
 
 -- A file system's own block
-
--- what is known of it
-pub own_facts : (r : Result Life Refusal) (facts : Facts) → Ok facts ≡ result_map facts_of r → (l : Life) × (r ≡ Ok l) × (facts_of l ≡ facts)
-own_facts r facts e = map_ok facts_of r facts (sym e)
 
 pub own_is : (state : StoreState) (fs b : ℕ) (l : Life) → own_life state fs b ≡ Ok l → IsOwn state.lives fs b l
 own_is state fs b l e =
@@ -56,8 +50,3 @@ pub forgotten_keeps : (T : Types) (lives : Lives) (next fs b : ℕ) (done : Unit
 forgotten_keeps T lives next fs b done h e =
     let state = state_of lives next in
     forget_keeps T state h fs b tt (state_of (slice_set lives b None) next) (planned T state b (own_life state fs b) done e)
-
-pub own_facts_installed : (T : Types) (state : StoreState) (fs b : ℕ) (facts : Facts) → IsConsistent T state → Ok facts ≡ result_map facts_of (own_life state fs b) → IsTrue (T.installed facts.ty)
-own_facts_installed T state fs b facts h e =
-    let own = own_facts (own_life state fs b) facts e in
-    subst (λ t. IsTrue (T.installed t)) (ap (λ (f : Facts). f.ty) own.2) (own_installed T state fs b own.0 h own.1)

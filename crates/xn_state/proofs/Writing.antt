@@ -17,6 +17,14 @@ use Rattle.block_cache.specs.declared.life.Facts.{Facts}
 use Rattle.block_cache.specs.Views.{facts_of, image_at}
 use Rattle.xn_state.proofs.Lasts.{image_of_some}
 
+-- the place of a block in use
+pub place_in_use : (lives : Lives) (b : ℕ) (l : Life) → Some l ≡ life_at lives b → slice_get lives b ≡ Some (Some l)
+place_in_use lives b l e = by (slice_get lives b) e
+  where
+    by : (p : Option (Option Life)) → Some l ≡ unwrap_or p None → p ≡ Some (Some l)
+    by None e = absurd (none-some l (sym e))
+    by (Some o) e = ap (λ x. Some x) (sym e)
+
 pub begun_is : (lives : Lives) (p : Option (Option Life)) (facts : Facts) (count : ℕ) → Some (Some facts) ≡ option_map (option_map facts_of) p → is_some facts.begun ≡ false →
     (count ≡ 0 → ⊥) → count ≡ prefix_of lives (unwrap_or p None) → Ok count ≡ result_map (λ (begun : List ℕ × ℕ). begun.1) (begun_place lives p)
 begun_is lives None facts count e idle some is = absurd (none-some (Some facts) (sym e))

@@ -23,7 +23,7 @@ ghost use Rattle.dependencies.specs.Typed.{FindsTypes};
 ghost use Rattle.xn_state.specs.Mounts.{found_life_of, lives_in};
 
 use crate::found::Found;
-use block_cache::{Cache, Claim, Facts, FoundLife, NewBytes};
+use block_cache::{Cache, Claim, FoundLife, LiveBlock, NewBytes};
 use claims::OwnedCounts;
 use dependencies::Index;
 use edit_list::{EditId, Fs, Undo};
@@ -103,38 +103,32 @@ impl Lives {
         self.cache.blocks()
     }
 
-    /// What is known of a block in use beside its bytes.
-    pub fn facts(&self, block: u32) -> Option<Facts>
-        ensures { result ≡ option_map facts_of (life_at self.now block) }
+    /// The life of a block, unless it is free or past the end.
+    pub fn live(&self, block: u32) -> Option<LiveBlock<'_>>
+        ensures { result ≡ life_at self.now block }
     {
-        self.cache.facts(block)
+        self.cache.live(block)
     }
 
-    /// What is known of a block that a file system may use: refused are a block past the end, a free or dropped one, and one of
-    /// another file system or of nobody.
-    pub fn own(&self, fs: Fs, block: u32) -> Result<Facts, Refusal>
-        ensures { result ≡ result_map facts_of (own_place fs.number (slice_get self.now block)) }
+    /// The life of a block that a file system may use: refused are a block past the end, a free or dropped one, and one of another file
+    /// system or of nobody.
+    pub fn own(&self, fs: Fs, block: u32) -> Result<LiveBlock<'_>, Refusal>
+        ensures own { result ≡ own_place fs.number (slice_get self.now block) }
+        ensures alive { IfOk result (λ life. life_at self.now block ≡ Some life) }
     {
-        match self.cache.place(block) {
-            None => Err(Refusal::NoSuchBlock),
-            Some(None) => Err(Refusal::NotInUse),
-            Some(Some(facts)) => {
-                if facts.is_dropped() {
-                    Err(Refusal::NotInUse)
-                } else if !self.cache.is_for(block, fs) {
-                    Err(Refusal::NotYours)
-                } else {
-                    Ok(facts)
-                }
-            }
+        if block >= self.cache.blocks() {
+            return Err(Refusal::NoSuchBlock);
         }
-    }
-
-    /// The newest bytes of a block in use.
-    pub fn current(&self, block: u32) -> Option<&[u8; 512]>
-        ensures { option_copied result ≡ option_map current (life_at self.now block) }
-    {
-        self.cache.current(block)
+        let Some(life) = self.cache.live(block) else {
+            return Err(Refusal::NotInUse);
+        };
+        if life.facts().is_dropped() {
+            return Err(Refusal::NotInUse);
+        }
+        if !life.is_for(fs) {
+            return Err(Refusal::NotYours);
+        }
+        Ok(life)
     }
 
     /// How many entries of a block are pending, at most 64.
@@ -149,18 +143,12 @@ impl Lives {
     pub fn newest_entry(&self, block: u32) -> Option<EditId>
         ensures { result ≡ newest_entry (life_at self.now block) }
     {
-        let count = self.cache.pending(block);
+        let life = self.cache.live(block)?;
+        let count = life.facts().pending;
         if count == 0 {
             return None;
         }
-        Some(self.cache.claim(block, count - 1)?.entry())
-    }
-
-    /// Whether a block is in use and belongs to a file system.
-    pub fn is_for(&self, block: u32, fs: Fs) -> bool
-        ensures { result ≡ alive_and (λ l. is_for fs.number l.fs) (life_at self.now block) }
-    {
-        self.cache.is_for(block, fs)
+        Some(life.claim(count - 1)?.entry())
     }
 
     /// How many pending entries count for a file system.
@@ -196,7 +184,7 @@ impl Lives {
     pub fn owns_none(&self, block: u32) -> bool
         ensures { result ≡ (is_some (life_at self.now block) && (owned_count self.now block == 0)) }
     {
-        self.cache.facts(block).is_some() && self.owned.count(block) == 0
+        self.cache.live(block).is_some() && self.owned.count(block) == 0
     }
 
     /// The block at which the chain of owners of a block ends: the block itself, if it has no owner.

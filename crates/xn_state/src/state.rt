@@ -7,7 +7,7 @@ ghost use Rattle.xn_model.specs.Types.{within_size};
 ghost use Rattle.xn_model.specs.Lists.{blank};
 ghost use Rattle.xn_model.specs.Lives.{StoreState, current, life_at, alive_and};
 ghost use Rattle.xn_model.specs.Results.{Gives, GivesExactly, result_map};
-ghost use Rattle.xn_model.specs.Calls.{init_of, init_refusal, life_bytes, life_pending, owns_nothing, too_many, begun_of, settled_of, floor_of};
+ghost use Rattle.xn_model.specs.Calls.{init_of, init_refusal, life_bytes, life_pending, owns_nothing, root_now, too_many, begun_of, settled_of, floor_of};
 ghost use Rattle.xn_model.specs.Rules.{IsConsistent};
 ghost use Rattle.xn_model.specs.Worlds.{mounted_state};
 ghost use Rattle.templates.specs.Tables.{table_types};
@@ -232,15 +232,27 @@ impl State {
     pub fn newest(&self, block: u32) -> Option<&[u8; 512]>
         ensures { option_copied result ≡ option_map current (life_at self.now.lives block) }
     {
-        self.lives.current(block)
+        Some(self.lives.live(block)?.current())
+    }
+
+    /// The newest bytes of block 0, which is always in use.
+    fn root_bytes(&self) -> &[u8; 512]
+        ensures bytes { result.now ≡ root_now self.now }
+        ensures alive { IsTrue (is_some (life_at self.now.lives 0)) }
+        ensures rules { IsConsistent (own_types self.now) self.now }
+    {
+        let Some(root) = self.lives.live(0) else {
+            unreachable!()
+        };
+        root.current()
     }
 
     /// Whether a write of a block is under way.
     pub fn is_in_flight(&self, block: u32) -> bool
         ensures { result ≡ alive_and (λ l. is_some l.begun) (life_at self.now.lives block) }
     {
-        match self.lives.facts(block) {
-            Some(facts) => facts.is_in_flight(),
+        match self.lives.live(block) {
+            Some(life) => life.facts().is_in_flight(),
             None => false,
         }
     }

@@ -2,15 +2,15 @@
 
 ghost use Rattle.std.specs.Prelude.{◌≡◌, ◌≢◌, ◌<◌, ◌≤◌, [], false, All, IfOk, IfSome, bytes_eq, length, slice_get, unwrap_or};
 ghost use Rattle.std.specs.Option.{option_copied};
-ghost use Rattle.xn_model.specs.Lives.{alive_and, begun_at, drops_of, freed, life_at, settled_at};
+ghost use Rattle.xn_model.specs.Lives.{begun_at, current, drops_of, freed, life_at, settled_at};
 ghost use Rattle.xn_model.specs.Results.{result_map};
-ghost use Rattle.xn_model.specs.Calls.{begun_place, first_pending, is_durable, life_bytes, life_pending, settled_place};
-ghost use Rattle.block_cache.specs.Views.{HasImage, image_at};
+ghost use Rattle.xn_model.specs.Calls.{begun_place, first_pending, life_bytes, life_pending, settled_count, settled_place};
+ghost use Rattle.block_cache.specs.Views.{image_at};
 ghost use Rattle.dependencies.specs.Typed.{FindsTypes};
 ghost use Rattle.dependencies.specs.Index.{MayFree};
 
 use crate::lives::Lives;
-use block_cache::Cache;
+use block_cache::{Cache, LiveBlock};
 use xn_model::Refusal;
 
 impl Lives {
@@ -21,13 +21,13 @@ impl Lives {
         ensures plan { result ≡ result_map (λ begun. begun.1) (begun_place self.now (slice_get self.now block)) }
         ensures within { IfOk result (λ count. (1 ≤ count) × (count ≤ life_pending (life_at self.now block))) }
     {
-        let Some(place) = self.cache.place(block) else {
+        if block >= self.cache.blocks() {
             return Err(Refusal::NoSuchBlock);
-        };
-        let Some(facts) = place else {
+        }
+        let Some(life) = self.cache.live(block) else {
             return Err(Refusal::NotInUse);
         };
-        if facts.is_in_flight() {
+        if life.facts().is_in_flight() {
             return Err(Refusal::InFlight);
         }
         let count = self.index.safe_prefix(&self.cache, block);
@@ -47,92 +47,19 @@ impl Lives {
         self.cache.image(block, count)
     }
 
-    /// Whether a block in use has these bytes once only its first pending entries are done.
-    #[inline(always)]
-    fn has_image(&self, block: u32, count: u32, bytes: &[u8; 512]) -> bool
-        requires { IfSome (life_at self.now block) (HasImage count) }
-        ensures { result ≡ alive_and (λ l. bytes_eq bytes.now (image_at count l)) (life_at self.now block) }
-    {
-        self.cache.has_image(block, count, bytes)
-    }
-
-    /// Whether these bytes may be the durable ones of a block in use: where no state of it is known to be on the disk, any may.
-    fn may_be_durable(&self, block: u32, bytes: &[u8; 512]) -> bool
-        ensures { result ≡ alive_and (λ l. is_durable bytes.now l.durable) (life_at self.now block) }
-    {
-        let Some(facts) = self.cache.facts(block) else {
-            return false;
-        };
-        if !facts.is_durable {
-            return true;
-        }
-        self.has_image(block, 0, bytes)
-    }
-
-    /// How many entries the bytes that are read back make durable.
-    pub fn settled(&self, block: u32, bytes: &[u8; 512]) -> Result<u32, Refusal>
-        ensures count { result ≡ settled_place bytes.now (slice_get self.now block) }
-        ensures within { IfOk result (λ count. count ≤ life_pending (life_at self.now block)) }
-        ensures few { IfOk result (λ count. count ≤ 64) }
-    {
-        let Some(facts) = self.cache.facts(block) else {
-            return Err(Refusal::NotMine);
-        };
-        let Some(count) = facts.begun else {
-            return Err(Refusal::NotMine);
-        };
-        if self.has_image(block, count, bytes) {
-            return Ok(count);
-        }
-        if self.may_be_durable(block, bytes) {
-            return Ok(0);
-        }
-        Err(Refusal::NotMine)
-    }
-
-    /// The same by these bytes, or where there are none by the newest ones. Those are compared only where a pending entry stands behind
-    /// the ones of the write.
+    /// How many entries the bytes that are read back make durable, or where there are none the newest ones.
     #[inline(always)]
     pub fn settled_unless(&self, block: u32, other: Option<&[u8; 512]>) -> Result<u32, Refusal>
         ensures count { result ≡ settled_place (unwrap_or (option_copied other.entry) (life_bytes (life_at self.now block))) (slice_get self.now block) }
         ensures within { IfOk result (λ count. count ≤ life_pending (life_at self.now block)) }
         ensures few { IfOk result (λ count. count ≤ 64) }
     {
+        let Some(life) = self.cache.live(block) else {
+            return Err(Refusal::NotMine);
+        };
         match other {
-            Some(bytes) => self.settled(block, bytes),
-            None => self.settled_as_newest(block),
-        }
-    }
-
-    /// How many entries are durable where a block's newest bytes are read back.
-    #[inline(always)]
-    fn settled_as_newest(&self, block: u32) -> Result<u32, Refusal>
-        ensures count { result ≡ settled_place (life_bytes (life_at self.now block)) (slice_get self.now block) }
-        ensures within { IfOk result (λ count. count ≤ life_pending (life_at self.now block)) }
-        ensures few { IfOk result (λ count. count ≤ 64) }
-    {
-        let Some(facts) = self.cache.facts(block) else {
-            return Err(Refusal::NotMine);
-        };
-        let Some(count) = facts.begun else {
-            return Err(Refusal::NotMine);
-        };
-        if count as usize == facts.pending {
-            return Ok(count);
-        }
-        self.settled_by_newest(block)
-    }
-
-    /// The same, by a comparison.
-    #[inline(never)]
-    fn settled_by_newest(&self, block: u32) -> Result<u32, Refusal>
-        ensures count { result ≡ settled_place (life_bytes (life_at self.now block)) (slice_get self.now block) }
-        ensures within { IfOk result (λ count. count ≤ life_pending (life_at self.now block)) }
-        ensures few { IfOk result (λ count. count ≤ 64) }
-    {
-        match self.cache.current(block) {
-            Some(newest) => self.settled(block, newest),
-            None => Err(Refusal::NotMine),
+            Some(bytes) => settled(&life, bytes),
+            None => settled_as_newest(&life),
         }
     }
 
@@ -161,6 +88,52 @@ impl Lives {
         self.index.note_settle(&self.cache, taken);
         freed
     }
+}
+
+/// How many entries of a life the bytes that are read back make durable. Where no state of it is known to be on the disk, it may hold any.
+fn settled(life: &LiveBlock<'_>, bytes: &[u8; 512]) -> Result<u32, Refusal>
+    ensures count { result ≡ settled_count life.now bytes.now life.now.begun }
+    ensures within { IfOk result (λ count. count ≤ length life.now.pending) }
+    ensures few { IfOk result (λ count. count ≤ 64) }
+{
+    let facts = life.facts();
+    let Some(count) = facts.begun else {
+        return Err(Refusal::NotMine);
+    };
+    if life.has_image(count, bytes) {
+        return Ok(count);
+    }
+    if !facts.is_durable || life.has_image(0, bytes) {
+        return Ok(0);
+    }
+    Err(Refusal::NotMine)
+}
+
+/// The same where the newest bytes are read back: they are compared only where a pending entry stands behind the ones of the write.
+#[inline(always)]
+fn settled_as_newest(life: &LiveBlock<'_>) -> Result<u32, Refusal>
+    ensures count { result ≡ settled_count life.now (current life.now) life.now.begun }
+    ensures within { IfOk result (λ count. count ≤ length life.now.pending) }
+    ensures few { IfOk result (λ count. count ≤ 64) }
+{
+    let facts = life.facts();
+    let Some(count) = facts.begun else {
+        return Err(Refusal::NotMine);
+    };
+    if count as usize == facts.pending {
+        return Ok(count);
+    }
+    settled_by_newest(life)
+}
+
+/// The same, by a comparison.
+#[inline(never)]
+fn settled_by_newest(life: &LiveBlock<'_>) -> Result<u32, Refusal>
+    ensures count { result ≡ settled_count life.now (current life.now) life.now.begun }
+    ensures within { IfOk result (λ count. count ≤ length life.now.pending) }
+    ensures few { IfOk result (λ count. count ≤ 64) }
+{
+    settled(life, life.current())
 }
 
 /// Ends a write of a block that made its first entries durable, and the lives of the blocks that these drop, if there are any.

@@ -20,27 +20,21 @@ impl State {
     pub fn read(&self, fs: Fs, block: u32) -> Result<&[u8; 512], Refusal>
         ensures { Lends (read_of self.now fs.number block) result }
     {
-        self.lives.own(fs, block)?;
-        match self.lives.current(block) {
-            Some(bytes) => Ok(bytes),
-            None => unreachable!(),
-        }
+        Ok(self.lives.own(fs, block)?.current())
     }
 
     /// The type of a block of the file system, with the refusals of `read`.
     pub fn kind(&self, fs: Fs, block: u32) -> Result<u32, Refusal>
         ensures { result ≡ kind_of self.now fs.number block }
     {
-        Ok(self.lives.own(fs, block)?.ty)
+        Ok(self.lives.own(fs, block)?.facts().ty)
     }
 
     /// The block in the file system's root slot, as block 0's newest state has it; `None` where the slot is empty.
     pub fn root(&self, fs: Fs) -> Option<u32>
         ensures { result ≡ root_of self.now fs.number }
     {
-        let Some(root) = self.lives.current(0) else {
-            unreachable!()
-        };
+        let root = self.root_bytes();
         let slot = root_slot(root, fs.index());
         if slot.block == 0 {
             None

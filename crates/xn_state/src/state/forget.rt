@@ -17,7 +17,7 @@ impl State {
     fn forgettable(&self, fs: Fs, block: u32) -> Result<(), Refusal>
         ensures { result ≡ forget_plan (own_types self.now) self.now fs.number block }
     {
-        let facts = self.lives.own(fs, block)?;
+        let facts = self.lives.own(fs, block)?.facts();
         if !facts.is_fresh() {
             return Err(Refusal::NotFresh);
         }

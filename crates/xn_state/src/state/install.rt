@@ -37,9 +37,7 @@ impl State {
         ensures places { result ≡ install_places self.now }
         ensures few { IfOk result (λ places. places.0 < 16) }
     {
-        let Some(root) = self.lives.current(0) else {
-            unreachable!()
-        };
+        let root = self.root_bytes();
         let Some(place) = empty_place(root) else {
             return Err(Refusal::NoSlot);
         };
@@ -75,9 +73,7 @@ impl State {
         ensures undoes { IfOk result (λ named. patched named.0 named.1 ≡ root_now self.now) }
         ensures err { IfErr result (λ refusal. refusal ≡ Refusal.NoMemory) }
     {
-        let Some(root) = self.lives.current(0) else {
-            unreachable!()
-        };
+        let root = self.root_bytes();
         match pointer_undo(self.alloc, root, place) {
             Ok(undo) => Ok((with_pointer(root, place, block), undo)),
             Err(_) => Err(Refusal::NoMemory),

@@ -38,8 +38,11 @@ impl State {
     fn may_add(&self, fs: Fs, add: (u32, u32)) -> bool
         ensures { result ≡ may_add self.now fs.number add }
     {
-        match self.lives.facts(add.0) {
-            Some(facts) => { facts.is_fresh() && facts.ty == add.1 && self.lives.is_for(add.0, fs) }
+        match self.lives.live(add.0) {
+            Some(life) => {
+                let facts = life.facts();
+                facts.is_fresh() && facts.ty == add.1 && life.is_for(fs)
+            }
             None => false,
         }
     }
@@ -48,8 +51,8 @@ impl State {
     fn may_drop(&self, owner: u32, block: u32) -> bool
         ensures { result ≡ may_drop self.now owner block }
     {
-        match self.lives.facts(block) {
-            Some(facts) => facts.is_owned_by(owner),
+        match self.lives.live(block) {
+            Some(life) => life.facts().is_owned_by(owner),
             None => false,
         }
     }
@@ -297,11 +300,8 @@ impl State {
         ensures numbers { OnOk result (self.now.next < 2 ^ 64 - 1) }
         ensures limits { OnOk result (IsTrue (within_limits edit.now)) }
     {
-        let facts = self.lives.own(fs, block)?;
-        let Some(old) = self.lives.current(block) else {
-            unreachable!()
-        };
-        self.edited(fs, block, facts, old, edit)
+        let life = self.lives.own(fs, block)?;
+        self.edited(fs, block, life.facts(), life.current(), edit)
     }
 
     /// What undoes an edit of a block in use.
@@ -312,7 +312,7 @@ impl State {
             life_bytes (life_at self.now.lives block)) }
         ensures err { IfErr result (λ refusal. refusal ≡ Refusal.NoMemory) }
     {
-        let Some(old) = self.lives.current(block) else {
+        let Some(old) = self.newest(block) else {
             unreachable!()
         };
         match edit.undo_of(self.alloc, old) {

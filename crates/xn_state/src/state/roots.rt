@@ -29,10 +29,8 @@ impl State {
         ensures few { IfOk result (λ plan. pending_of self.now fs.number < 4096) }
         ensures numbers { IfOk result (λ plan. self.now.next < 2 ^ 64 - 1) }
     {
-        let facts = self.lives.own(fs, block)?;
-        let Some(root) = self.lives.current(0) else {
-            unreachable!()
-        };
+        let facts = self.lives.own(fs, block)?.facts();
+        let root = self.root_bytes();
         if root_slot(root, fs.index()).block != 0 {
             return Err(Refusal::RootTaken);
         }
@@ -75,9 +73,7 @@ impl State {
         ensures few { IfOk result (λ plan. pending_of self.now fs.number < 4096) }
         ensures numbers { IfOk result (λ plan. self.now.next < 2 ^ 64 - 1) }
     {
-        let Some(root) = self.lives.current(0) else {
-            unreachable!()
-        };
+        let root = self.root_bytes();
         let slot = root_slot(root, fs.index());
         if slot.block == 0 {
             return Err(Refusal::NotOwned);
@@ -116,9 +112,7 @@ impl State {
         ensures ok { IfOk result (λ undo. (root : ℕ × ℕ) → patched (with_slot (root_now self.now) fs.number root) undo ≡ root_now self.now) }
         ensures err { IfErr result (λ refusal. refusal ≡ Refusal.NoMemory) }
     {
-        let Some(root) = self.lives.current(0) else {
-            unreachable!()
-        };
+        let root = self.root_bytes();
         match slot_undo(self.alloc, root, fs) {
             Ok(undo) => Ok(undo),
             Err(_) => Err(Refusal::NoMemory),
