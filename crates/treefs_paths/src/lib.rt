@@ -1,0 +1,10 @@
+//! Where paths lead in a file system of trees over a store, over symbolic links too.
+//! May touch: memory.
+#![tactic(auto)]
+
+mod finding;
+mod names;
+mod steps;
+mod way;
+
+pub use finding::find_path;
