@@ -74,7 +74,8 @@ FreesUnnamed T old new volume volume' tallies result =
 abbrev pub MendsBy : Types → Survey → StoreState → StoreState → Volume → Volume → Result (Unit {0}) Fault → Type 0
 MendsBy T survey old new volume volume' result =
     (MatchResult result (λ done. ⊥) (λ fault. MendsTable T volume survey.directories survey.tallies old new (Err fault)) × (volume' ≡ volume))
-    ⊎ ((middle : StoreState) × MendsTable T volume survey.directories survey.tallies old middle (Ok tt) × FreesUnnamed T middle new volume volume' survey.tallies result)
+    ⊎ ((middle : StoreState) × MendsTable T volume survey.directories survey.tallies old middle (Ok tt)
+    × FreesUnnamed T middle new volume volume' survey.tallies result)
 
 abbrev pub MendsInodes : Types → StoreState → StoreState → Volume → Volume → Result (Unit {0}) Fault → Type 0
 MendsInodes T old new volume volume' result =

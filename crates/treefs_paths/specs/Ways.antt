@@ -77,7 +77,8 @@ abbrev pub stepped : (ℕ → List ℕ) → ℕ → Bool → Way → Result Way 
 stepped content top last way =
     if begins_with_slash way.rest
     then and_then (directory_found content top way.number) (λ found. Ok (record { number = way.number; rest = drop 1 way.rest; links = way.links }))
-    else and_then (number_named content top way.number (take (name_end way.rest) way.rest)) (λ n. met content top last way n (drop (name_end way.rest) way.rest))
+    else and_then (number_named content top way.number (take (name_end way.rest) way.rest))
+    (λ n. met content top last way n (drop (name_end way.rest) way.rest))
 
 -- what is left grows through a symbolic link alone
 abbrev pub IsFurther : Way → List ℕ → Way → Type 0
@@ -91,8 +92,8 @@ IsShorter way next = (next.links < way.links) ⊎ ((next.links ≡ way.links) ×
 pub data Leads (content : ℕ → List ℕ) (top : ℕ) (last : Bool) : Way → Result ℕ Fault → Type 0 where
   arrives : {way : Way} → length way.rest ≡ 0 → Leads content top last way (Ok way.number)
   stops : {way : Way} {fault : Fault} → 0 < length way.rest → stepped content top last way ≡ Err fault → Leads content top last way (Err fault)
-  goes : {way : Way} {result : Result ℕ Fault} (next : Way) → 0 < length way.rest → stepped content top last way ≡ Ok next → Leads content top last next result →
-      Leads content top last way result
+  goes : {way : Way} {result : Result ℕ Fault} (next : Way) → 0 < length way.rest → stepped content top last way ≡ Ok next →
+      Leads content top last next result → Leads content top last way result
 
 -- through 40 symbolic links at most
 abbrev pub first_way : ℕ → List ℕ → Way

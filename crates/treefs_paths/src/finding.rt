@@ -17,9 +17,10 @@ use xn_state::Store;
 /// How many symbolic links a path may go through.
 const MOST_LINKS: u32 = 40;
 
-/// The number of the inode to which a path leads: from inode 1 on where it begins with a slash, else from a directory on. A symbolic link at its end is followed
-/// where that is told; all others are. The faults are, at the first name that has one, those of the directory (`NoEntry`, `NotDir`, `NoEntry` where it has no
-/// link), `BadName`, `NoEntry`; `Cycle` at the 41st symbolic link, and `TooLarge` where one has more than 4,096 bytes. `Kernel` comes only for want of memory.
+/// The number of the inode to which a path leads: from inode 1 on where it begins with a slash, else from a directory on. A symbolic link at its end is
+/// followed where that is told; all others are. The faults are, at the first name that has one, those of the directory (`NoEntry`, `NotDir`, `NoEntry`
+/// where it has no link), `BadName`, `NoEntry`; `Cycle` at the 41st symbolic link, and `TooLarge` where one has more than 4,096 bytes. `Kernel` comes only
+/// for want of memory.
 pub fn find_path<S: Store>(
     alloc: Global,
     store: &S,

@@ -14,6 +14,7 @@ use treefs_check::check;
 use treefs_format::Kind;
 use treefs_lookup::{find_entry, find_inode, read, read_link};
 use treefs_model::Fault;
+use treefs_paths::find_path;
 use treefs_puts::append;
 use xn_state::Store;
 
@@ -323,6 +324,17 @@ fn look<S: Store>(
             let mut bytes = vec![in alloc; 0u8; asked.number(3) as usize]?;
             let answer = read(store, fs, top, first, asked.size(2), &mut bytes);
             told.read(&bytes, answer);
+        }
+        Look::Path => {
+            let is_last_followed = asked.says(3, "follow");
+            told.answer(find_path(
+                alloc,
+                store,
+                volume.tree,
+                first,
+                &asked.name,
+                is_last_followed,
+            ));
         }
         Look::Readlink => {
             let mut bytes = [0u8; 512];

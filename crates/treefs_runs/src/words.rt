@@ -53,6 +53,7 @@ pub enum Look {
     Readdir,
     Read,
     Readlink,
+    Path,
 }
 
 /// The first word of a line, how many words it has, what it asks for, and which of the words a name is, which one a new name, and which one bytes; 0 for none
@@ -60,7 +61,7 @@ pub enum Look {
 type Form = (&'static str, usize, Verb, usize, usize, usize);
 
 /// The lines that are calls.
-static FORMS: [Form; 32] = [
+static FORMS: [Form; 33] = [
     ("mkfs", 3, Verb::Mkfs, 0, 0, 0),
     ("create", 3, Verb::Make(Make::Create), 2, 0, 0),
     ("create", 4, Verb::Make(Make::Create), 2, 0, 0),
@@ -89,6 +90,7 @@ static FORMS: [Form; 32] = [
     ("readdir", 2, Verb::Look(Look::Readdir), 0, 0, 0),
     ("read", 4, Verb::Look(Look::Read), 0, 0, 0),
     ("readlink", 2, Verb::Look(Look::Readlink), 0, 0, 0),
+    ("path", 4, Verb::Look(Look::Path), 2, 0, 0),
     ("check", 1, Verb::Check, 0, 0, 0),
     ("time", 2, Verb::Time, 0, 0, 0),
     ("wave", 1, Verb::Wave, 0, 0, 0),
