@@ -284,13 +284,12 @@ impl Lives {
         ensures err { OnErr result (self.new ≡ self.old) }
     {
         let number = claim.entry().number();
-        let is_first = self.cache.pending(block) == 0;
         self.cache.append(block, claim, bytes, undo)?;
         set_dropped(&mut self.cache, block, drops);
         set_owned(&mut self.cache, block, adds);
         self.owned
             .change(block, drops.len() as u32, adds.len() as u32);
-        self.index.note_entry(block, number, fs, is_first);
+        self.index.note_entry(block, number, fs);
         Ok(())
     }
 }
