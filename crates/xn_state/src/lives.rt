@@ -131,14 +131,6 @@ impl Lives {
         Ok(life)
     }
 
-    /// How many entries of a block are pending, at most 64.
-    pub fn pending(&self, block: u32) -> usize
-        ensures count { result ≡ life_pending (life_at self.now block) }
-        ensures few { result ≤ 64 }
-    {
-        self.cache.pending(block)
-    }
-
     /// The number of the newest pending entry of a block.
     pub fn newest_entry(&self, block: u32) -> Option<EditId>
         ensures { result ≡ newest_entry (life_at self.now block) }
