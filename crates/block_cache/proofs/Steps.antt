@@ -27,10 +27,6 @@ pub life_there : (slab : Slab Entry) (places : List (Option CachedLife)) (lives 
 life_there slab places lives b l view at =
     ap (λ (ls : Lives). life_at ls b) (sym view) ∙ (life-life_at slab places b ∙ ap (option_map (life_of slab)) (sym at))
 
-pub no_life_there : (slab : Slab Entry) (places : List (Option CachedLife)) (lives : Lives) (b : ℕ) → lives_of slab places ≡ lives → None ≡ place_at places b → life_at lives b ≡ None
-no_life_there slab places lives b view at =
-    ap (λ (ls : Lives). life_at ls b) (sym view) ∙ (life-life_at slab places b ∙ ap (option_map (life_of slab)) (sym at))
-
 some-map : (slab : Slab Entry) (o : Option CachedLife) → is_some (option_map (life_of slab) o) ≡ is_some o
 some-map slab None = refl
 some-map slab (Some l) = refl

@@ -185,7 +185,8 @@ fn found_groups(
     requires within { length found.now ≤ length blocks.now }
     requires few { length found.now < 2 ^ 32 }
     ensures room { IfOk result (λ groups. length found.now ≤ 64 * length groups.items) }
-    ensures places { IfOk result (λ groups. places_of (length found.now) groups.items ≡ map (resting_at found.now blocks.now) (range_with_len 0 (length found.now))) }
+    ensures places { IfOk result (λ groups. places_of (length found.now) groups.items
+        ≡ map (resting_at found.now blocks.now) (range_with_len 0 (length found.now))) }
 {
     let count = found.len().div_ceil(GROUP_BLOCKS);
     let mut groups = Vec::with_capacity(alloc, count)?;

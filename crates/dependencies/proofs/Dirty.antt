@@ -1,8 +1,8 @@
 -- The blocks for which something is pending.
 use Rattle.std.proofs.Common.{take, ◌++◌, ◌≡◌, ℕ, zero, suc, ◌+◌, ◌<◌, ◌≤◌, Bool, true, false, List, [], ◌∷◌, length, map, get_or, Option, Some, None, refl, sym, ◌∙◌, ap, arith, inl, inr}
-use Rattle.std.specs.Prelude.{◌&&◌, ◌||◌, is_none, nat_lt, position, slice_index_or}
+use Rattle.std.specs.Prelude.{◌&&◌, ◌||◌, ◌==◌, is_none, nat_lt, not, position, slice_get, slice_index_or, unwrap_or}
 use Rattle.std.specs.List.{list_any}
-use Rattle.std.proofs.lemmas.Bool.{cases_lt, false≢true, lt-ltb}
+use Rattle.std.proofs.lemmas.Bool.{cases_lt, eq-eqb, false≢true, le-ltb, lt-ltb, ne_eqb}
 use Rattle.std.proofs.lemmas.List.{length-map}
 use Rattle.std.proofs.lemmas.Option.{unwrap_or-slice_get}
 use Rattle.xn_model.specs.Lives.{entries_at, entries_in, entries_of, BlockState, Life, Lives, has_entry, life_at, safe_count}
@@ -128,3 +128,15 @@ pub counts_pass : (fs n m : ℕ) (lives : Lives) → n ≤ m → ((k : ℕ) → 
 counts_pass fs n m lives le none =
     sym (entries_counted fs (record { lives = take m lives; next = 0 }))
     ∙ (ap (λ es. length es) (entries_pass fs n m lives le none) ∙ entries_counted fs (record { lives = take n lives; next = 0 }))
+
+-- a block that is not dirty gets its first entry
+pub first_by_dirty : (dirty : List Bool) (lives : Lives) (b : ℕ) → dirty ≡ map is_dirty lives → not (unwrap_or (slice_get dirty b) false) ≡ (life_pending (life_at lives b) == 0)
+first_by_dirty dirty lives b e =
+    ap (λ ds. not (unwrap_or (slice_get ds b) false)) e
+    ∙ (ap not (unwrap_or-slice_get (map is_dirty lives) b false ∙ dirty_at lives b) ∙ none (life_pending (life_at lives b)))
+  where
+    none : (n : ℕ) → not (nat_lt 0 n) ≡ (n == 0)
+    none n = elim (cases_lt 0 n) [
+      | inl some ↦ ap not (lt-ltb 0 n some) ∙ sym (ne_eqb n 0 (λ e. absurd (omega (arith, e, some))))
+      | inr past ↦ let zero' : n ≡ 0 = omega (arith, past) in ap not (le-ltb 0 n past) ∙ sym (eq-eqb n 0 zero')
+    ]

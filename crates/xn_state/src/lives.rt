@@ -131,14 +131,6 @@ impl Lives {
         Ok(life)
     }
 
-    /// How many entries of a block are pending, at most 64.
-    pub fn pending(&self, block: u32) -> usize
-        ensures count { result ≡ life_pending (life_at self.now block) }
-        ensures few { result ≤ 64 }
-    {
-        self.cache.pending(block)
-    }
-
     /// The number of the newest pending entry of a block.
     pub fn newest_entry(&self, block: u32) -> Option<EditId>
         ensures { result ≡ newest_entry (life_at self.now block) }
@@ -284,13 +276,12 @@ impl Lives {
         ensures err { OnErr result (self.new ≡ self.old) }
     {
         let number = claim.entry().number();
-        let is_first = self.cache.pending(block) == 0;
         self.cache.append(block, claim, bytes, undo)?;
         set_dropped(&mut self.cache, block, drops);
         set_owned(&mut self.cache, block, adds);
         self.owned
             .change(block, drops.len() as u32, adds.len() as u32);
-        self.index.note_entry(block, number, fs, is_first);
+        self.index.note_entry(block, number, fs);
         Ok(())
     }
 }

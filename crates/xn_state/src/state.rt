@@ -7,7 +7,7 @@ ghost use Rattle.xn_model.specs.Types.{within_size};
 ghost use Rattle.xn_model.specs.Lists.{blank};
 ghost use Rattle.xn_model.specs.Lives.{StoreState, current, life_at, alive_and};
 ghost use Rattle.xn_model.specs.Results.{Gives, GivesExactly, result_map};
-ghost use Rattle.xn_model.specs.Calls.{init_of, init_refusal, life_bytes, life_pending, owns_nothing, root_now, too_many, begun_of, settled_of, floor_of};
+ghost use Rattle.xn_model.specs.Calls.{init_of, init_refusal, life_bytes, life_pending, owns_nothing, too_many, begun_of, settled_of, floor_of};
 ghost use Rattle.xn_model.specs.Rules.{IsConsistent};
 ghost use Rattle.xn_model.specs.Worlds.{mounted_state};
 ghost use Rattle.templates.specs.Tables.{table_types};
@@ -17,6 +17,7 @@ ghost use Rattle.xn_state.specs.States.{own_types};
 use crate::found::Found;
 use crate::lives::Lives;
 use arrayvec::ArrayVec;
+use block_cache::LiveBlock;
 use claims::ReadSets;
 use edit_list::{EditId, Fs};
 use std::alloc::{AllocError, Global};
@@ -235,16 +236,15 @@ impl State {
         Some(self.lives.live(block)?.current())
     }
 
-    /// The newest bytes of block 0, which is always in use.
-    fn root_bytes(&self) -> &[u8; 512]
-        ensures bytes { result.now ≡ root_now self.now }
-        ensures alive { IsTrue (is_some (life_at self.now.lives 0)) }
+    /// The life of block 0, which is always in use.
+    fn root_block(&self) -> LiveBlock<'_>
+        ensures alive { life_at self.now.lives 0 ≡ Some result }
         ensures rules { IsConsistent (own_types self.now) self.now }
     {
         let Some(root) = self.lives.live(0) else {
             unreachable!()
         };
-        root.current()
+        root
     }
 
     /// Whether a write of a block is under way.

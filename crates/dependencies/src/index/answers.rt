@@ -67,9 +67,13 @@ impl Index {
         ensures count { result ≡ prefix_of cache.now (life_at cache.now block) }
         ensures within { result ≤ life_pending (life_at cache.now block) }
     {
-        let pending = cache.pending(block);
+        let Some(life) = cache.live(block) else {
+            return 0;
+        };
+        let pending = life.facts().pending;
         for place in 0..pending {
-            if !is_safe_at(cache, &self.dirty, &self.homes, block, place) {
+            let claim = life.claim(place);
+            if !is_safe_at(cache, &self.dirty, &self.homes, block, place, claim) {
                 return place as u32;
             }
         }
@@ -91,12 +95,11 @@ impl Index {
         requires typed { FindsTypes cache.now }
         ensures { result ≡ is_ready cache.now (life_at cache.now block) }
     {
-        match cache.facts(block) {
-            Some(facts) => {
-                !facts.is_in_flight() && is_safe_at(cache, &self.dirty, &self.homes, block, 0)
-            }
-            None => false,
-        }
+        let Some(life) = cache.live(block) else {
+            return false;
+        };
+        let first = life.claim(0);
+        !life.facts().is_in_flight() && is_safe_at(cache, &self.dirty, &self.homes, block, 0, first)
     }
 
     /// The least block of which a write may begin. The walk is over the candidates, and ends with the first that is ready.

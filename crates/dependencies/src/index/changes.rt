@@ -1,6 +1,6 @@
 // What follows in an index where lives change.
 
-ghost use Rattle.std.specs.Prelude.{◌≡◌, ◌<◌, ◌≤◌, ◌==◌, ℕ, List, [], Some, None, IfSome, IsTrue, false, is_some, slice_get, slice_index, slice_set};
+ghost use Rattle.std.specs.Prelude.{◌≡◌, ◌<◌, ◌≤◌, ℕ, List, [], Some, None, IfSome, IsTrue, false, is_some, slice_get, slice_index, slice_set};
 ghost use Rattle.xn_model.specs.Lives.{BlockState, Lives, accepted_at, begun_at, drops_of, freed, life_at, settled_at};
 ghost use Rattle.xn_model.specs.Calls.{first_pending, life_pending, new_life};
 ghost use Rattle.block_cache.specs.Systems.{system_of};
@@ -31,12 +31,13 @@ impl Index {
 
     /// Notes one more entry of a block, of this number.
     #[inline(always)]
-    pub fn note_entry(&mut self, block: u32, number: u64, fs: Option<Fs>, is_first: bool)
+    pub fn note_entry(&mut self, block: u32, number: u64, fs: Option<Fs>)
         requires { IfSome fs (λ f. slice_index self.old.pending f.number < 4096) }
         ensures { (lives : Lives) (s : BlockState) → IsIndex lives self.old → IsTrue (is_some (life_at lives block)) →
-            is_first ≡ (life_pending (life_at lives block) == 0) → s.entry ≡ number → s.fs ≡ system_of fs →
+            s.entry ≡ number → s.fs ≡ system_of fs →
             ((b : ℕ) → pends number (life_at lives b) ≡ false) → IsIndex (accepted_at lives block s) self.new }
     {
+        let is_first = !self.dirty.contains(block);
         mark(&mut self.dirty, block, true);
         self.candidates.note_entry(block, is_first);
         self.homes.put(number, block);

@@ -34,8 +34,8 @@ impl State {
     pub fn root(&self, fs: Fs) -> Option<u32>
         ensures { result ≡ root_of self.now fs.number }
     {
-        let root = self.root_bytes();
-        let slot = root_slot(root, fs.index());
+        let root = self.root_block();
+        let slot = root_slot(root.current(), fs.index());
         if slot.block == 0 {
             None
         } else {
@@ -61,7 +61,10 @@ impl State {
     pub fn pending_in(&self, block: u32) -> u32
         ensures { result ≡ pending_in_of self.now block }
     {
-        self.lives.pending(block) as u32
+        match self.lives.live(block) {
+            Some(life) => life.facts().pending as u32,
+            None => 0,
+        }
     }
 
     /// The number of the newest pending entry of a block, `None` where nothing is pending there.

@@ -37,11 +37,11 @@ impl State {
         ensures places { result ≡ install_places self.now }
         ensures few { IfOk result (λ places. places.0 < 16) }
     {
-        let root = self.root_bytes();
-        let Some(place) = empty_place(root) else {
+        let root = self.root_block();
+        let Some(place) = empty_place(root.current()) else {
             return Err(Refusal::NoSlot);
         };
-        if self.lives.pending(0) >= 64 {
+        if root.facts().pending >= 64 {
             return Err(Refusal::TooManyPending);
         }
         if self.next >= u64::MAX - 1 {
@@ -73,7 +73,7 @@ impl State {
         ensures undoes { IfOk result (λ named. patched named.0 named.1 ≡ root_now self.now) }
         ensures err { IfErr result (λ refusal. refusal ≡ Refusal.NoMemory) }
     {
-        let root = self.root_bytes();
+        let root = self.root_block().current();
         match pointer_undo(self.alloc, root, place) {
             Ok(undo) => Ok((with_pointer(root, place, block), undo)),
             Err(_) => Err(Refusal::NoMemory),

@@ -30,14 +30,15 @@ impl State {
         ensures numbers { IfOk result (λ plan. self.now.next < 2 ^ 64 - 1) }
     {
         let facts = self.lives.own(fs, block)?.facts();
-        let root = self.root_bytes();
+        let life = self.root_block();
+        let root = life.current();
         if root_slot(root, fs.index()).block != 0 {
             return Err(Refusal::RootTaken);
         }
         if !facts.is_fresh() {
             return Err(Refusal::NotFresh);
         }
-        if self.is_too_many(fs, self.lives.pending(0)) {
+        if self.is_too_many(fs, life.facts().pending) {
             return Err(Refusal::TooManyPending);
         }
         if self.next == u64::MAX {
@@ -73,7 +74,8 @@ impl State {
         ensures few { IfOk result (λ plan. pending_of self.now fs.number < 4096) }
         ensures numbers { IfOk result (λ plan. self.now.next < 2 ^ 64 - 1) }
     {
-        let root = self.root_bytes();
+        let life = self.root_block();
+        let root = life.current();
         let slot = root_slot(root, fs.index());
         if slot.block == 0 {
             return Err(Refusal::NotOwned);
@@ -81,7 +83,7 @@ impl State {
         if !self.is_empty(slot.block) {
             return Err(Refusal::NotEmpty);
         }
-        if self.is_too_many(fs, self.lives.pending(0)) {
+        if self.is_too_many(fs, life.facts().pending) {
             return Err(Refusal::TooManyPending);
         }
         if self.next == u64::MAX {
@@ -112,7 +114,7 @@ impl State {
         ensures ok { IfOk result (λ undo. (root : ℕ × ℕ) → patched (with_slot (root_now self.now) fs.number root) undo ≡ root_now self.now) }
         ensures err { IfErr result (λ refusal. refusal ≡ Refusal.NoMemory) }
     {
-        let root = self.root_bytes();
+        let root = self.root_block().current();
         match slot_undo(self.alloc, root, fs) {
             Ok(undo) => Ok(undo),
             Err(_) => Err(Refusal::NoMemory),

@@ -1,5 +1,7 @@
-use Rattle.std.proofs.Common.{◌∙◌, subst, sym}
+use Rattle.std.proofs.Common.{◌∙◌, Some, ap, subst, sym}
+use Rattle.std.specs.Prelude.{option_map}
 use Rattle.xn_model.specs.Lives.{life_at}
+use Rattle.block_cache.specs.Views.{facts_of}
 use Rattle.dependencies.proofs.Accounts.{ready_at}
 use Rattle.dependencies.specs.Index.{IsIndex}
 use Rattle.dependencies.proofs.index.Index.is_ready.Goals as goal
@@ -12,4 +14,4 @@ is_safe_at-requires-clause-homes c =
 pub returns-then-not-is_in_flight : goal.returns-then-not-is_in_flight
 returns-then-not-is_in_flight c =
     c.is_safe_at.ensures
-    ∙ ready_at c.args.cache.now (life_at c.args.cache.now c.args.block) c.in-Some.facts c.in-Some.ensures.facts (sym c.is_in_flight.ensures ∙ c.if-not-is_in_flight.true)
+    ∙ ready_at c.args.cache.now (life_at c.args.cache.now c.args.block) c.facts.result (ap (λ f. Some f) c.facts.ensures.facts ∙ ap (option_map facts_of) c.in-Some.ensures) (sym c.is_in_flight.ensures ∙ c.if-not-is_in_flight.true)

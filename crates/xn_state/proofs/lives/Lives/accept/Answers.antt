@@ -1,5 +1,5 @@
-use Rattle.std.proofs.Common.{◌≡◌, ◌∙◌, ℕ, ◌+◌, ◌-◌, ◌≤◌, length, ap, sym, subst, arith}
-use Rattle.std.specs.Prelude.{◌==◌, is_some, slice_index, slice_set, IsTrue}
+use Rattle.std.proofs.Common.{◌≡◌, ◌∙◌, ℕ, ◌+◌, ◌-◌, ◌≤◌, length, sym, subst, arith}
+use Rattle.std.specs.Prelude.{is_some, slice_index, slice_set, IsTrue}
 use Rattle.xn_model.specs.Images.{most_blocks}
 use Rattle.xn_model.specs.Lives.{Lives, dropped_after, life_at, owned_after}
 use Rattle.xn_model.specs.Calls.{life_bytes}
@@ -47,10 +47,9 @@ invariant_of-self-2 c =
     let claimed = subst (λ adds. MayClaim cache block adds c.args.claim.drops) (sym c.requires.adds) (subst (MayClaim cache block c.args.adds.now) (sym c.requires.drops) may) in
     let counts : c.change.new.self ≡ slice_set owned block (slice_index owned block - length c.args.claim.drops + length c.args.claim.adds) = c.change.ensures
     ∙ (λ i. slice_set owned block (slice_index owned block - length (sym c.requires.drops i) + length (sym c.requires.adds i))) in
-    let first = ap (λ n. n == 0) c.pending-is_first.ensures.count in
     let number = c.number-number.ensures ∙ c.entry.ensures in
     let fresh = λ (x : ℕ). (λ i. pends (number i) (life_at (c.self.view_is i) x)) ∙ c.requires.fresh x in
     rw (lives, counts) (
       accepted_counts owned cache block state c.self.invariant.0 (alive_place cache block alive) claimed,
-      c.note_entry.ensures cache state c.self.invariant.1 alive first (sym number) c.requires.fs fresh,
+      c.note_entry.ensures cache state c.self.invariant.1 alive (sym number) c.requires.fs fresh,
     )
