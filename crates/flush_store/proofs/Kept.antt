@@ -1,5 +1,5 @@
 -- What flushes keep, where they end and where they are refused or stop.
-use Rattle.std.proofs.Common.{◌≡◌, ℕ, Result, Ok, Err, IfOk, IfErr}
+use Rattle.std.proofs.Common.{ℕ, Result, Ok, Err, IfOk, IfErr}
 use Rattle.xn_model.specs.Types.{Types}
 use Rattle.xn_model.specs.Lives.{StoreState}
 use Rattle.xn_model.specs.Rules.{IsConsistent}

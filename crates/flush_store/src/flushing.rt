@@ -1,15 +1,14 @@
 // Stores whose pending entries are written in waves.
 
-ghost use Rattle.std.specs.Prelude.{◌≡◌, ◌<◌, ◌≤◌, IfErr, IfOk, MatchResult, OnOk, Ok, Err, is_some};
-ghost use Rattle.xn_model.specs.Calls.{free_of, tainted_of};
+ghost use Rattle.std.specs.Prelude.{◌≡◌, ◌<◌, ◌≤◌, IfErr, IfOk, MatchResult, OnOk, Ok, Err};
 ghost use Rattle.xn_model.specs.Rules.{IsIdle};
 ghost use Rattle.flush_store.specs.Written.{AllWritten};
-ghost use Rattle.xn_state.specs.Awaits.{awaited_of};
 ghost use Rattle.xn_kernel.specs.FlushedStates.{StateRefuses, StateWaves};
 
 use disk::Lane;
 use std::alloc::Global;
 use xn_kernel::{FlushStop, Kernel, Refusal, Store};
+use xn_state::State;
 
 /// A store on a disk that can be flushed. What a flush leaves of rules and newest bytes is said by the law `flushes_keep_newest`.
 pub trait FlushStore: Store {
@@ -33,14 +32,9 @@ pub trait FlushStore: Store {
         ensures done { IfOk result (λ waves. waves < most → AllWritten (Self.state_of self.new).lives) }
         ensures err { IfErr result (λ refusal. StateRefuses (Self.state_of self.old) refusal (Self.state_of self.new)) };
 
-    /// How many blocks are free.
-    fn free(&self) -> u32
-        ensures { result ≡ free_of (Self.state_of self.now) };
-
-    /// The block that the first entry of a block waits for that may not be written yet; `None` where none waits.
-    fn awaited(&self, block: u32) -> Option<u32>
-        ensures block { result ≡ awaited_of (Self.state_of self.now) block }
-        ensures waits { is_some result ≡ tainted_of (Self.state_of self.now) block };
+    /// What it knows of blocks and types, to be asked.
+    fn state(&self) -> &State
+        ensures { result.now ≡ Self.state_of self.now };
 }
 
 /// What a flush answers. The lanes of blocks that could not be finished are given up.
@@ -77,11 +71,7 @@ impl<L: Lane + Drop> FlushStore for Kernel<L> {
         waves_of(flushed)
     }
 
-    fn free(&self) -> u32 {
-        Kernel::free(self)
-    }
-
-    fn awaited(&self, block: u32) -> Option<u32> {
-        Kernel::awaited(self, block)
+    fn state(&self) -> &State {
+        Kernel::state(self)
     }
 }

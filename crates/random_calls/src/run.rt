@@ -280,15 +280,15 @@ impl Run {
     fn ask(&mut self, kernel: &Kernel<MemLane>, fs: Fs, block: u32) {
         let system = fs.number();
         let (record, tally) = (&self.record, &mut self.tally);
-        tally.ask(code(kernel.pick()), code(record.pick()));
+        tally.ask(code(kernel.state().pick()), code(record.pick()));
         tally.ask(kernel.floor(fs), record.floor(system));
         tally.ask(
             u64::from(kernel.pending(fs)),
             u64::from(record.pending(system)),
         );
-        tally.ask(u64::from(kernel.free()), u64::from(record.free_count()));
+        tally.ask(u64::from(kernel.state().free()), u64::from(record.free_count()));
         let is_tainted = record.tainted(block);
-        tally.ask(u64::from(kernel.tainted(block)), u64::from(is_tainted));
+        tally.ask(u64::from(kernel.state().tainted(block)), u64::from(is_tainted));
         if is_tainted {
             tally.add(Met::Tainted, 1);
         }

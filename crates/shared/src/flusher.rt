@@ -75,9 +75,9 @@ impl<'a, L: Lane, G: Gate, K: Naming> Flusher<'a, Hub<L, K>, G> {
         ensures none { IfNone result (NothingToWrite L.bytes_of L.crash_leaves) }
         ensures begun { IfSome result (HasBegun L.bytes_of L.crash_leaves) }
     {
-        let mut hub = self.shared.lock(rt);
+        let mut hub = self.shared.held.lock(rt);
         hub.is_sound();
-        let block = hub.kernel().pick()?;
+        let block = hub.kernel().state().pick()?;
         let Ok(ticket) = hub.begin(block) else {
             unreachable!()
         };
@@ -114,7 +114,7 @@ impl<'a, L: Lane, G: Gate, K: Naming> Flusher<'a, Hub<L, K>, G> {
         ensures ok { IfOk result (λ landed. Finishes L.bytes_of L.crash_leaves L.read_gives ticket landed.durable) }
         ensures err { IfErr result (λ back. FinishRefuses L.bytes_of L.crash_leaves L.faults_of L.read_gives ticket back.1 back.0) }
     {
-        let mut hub = self.shared.lock(rt);
+        let mut hub = self.shared.held.lock(rt);
         hub.is_sound();
         hub.finish(ticket)
     }

@@ -7,7 +7,7 @@ ghost use Rattle.std.specs.Fn.{FnOnceTakesAtMut, FnOnceReturnsAtMut};
 use durable_floor::Floor;
 use std::alloc::Global;
 use std::sync::atomic::{AtomicBool, Ordering};
-use std::sync::{Arc, Mutex, MutexGuard, Wait};
+use std::sync::{Arc, Mutex, Wait};
 
 /// What is told of each write, with no lock held: each begun one is landed once, whatever the device answers.
 pub trait Gate {
@@ -37,7 +37,7 @@ pub trait Held {
 /// A value under a lock, with its floor, a gate and a stop flag, which need no lock.
 #[derive(Drop)]
 pub struct Locked<H: Held, G: Gate> {
-    held: Mutex<H>,
+    pub(crate) held: Mutex<H>,
     floor: Arc<Floor, Global>,
     pub(crate) gate: G,
     stopped: AtomicBool,
@@ -72,11 +72,6 @@ impl<H: Held, G: Gate> Locked<H, G> {
         let mut guard = self.held.lock(rt);
         guard.is_sound();
         f(&mut guard)
-    }
-
-    /// Waits for the lock.
-    pub(crate) fn lock<R: Wait>(&self, rt: &R) -> MutexGuard<'_, H> {
-        self.held.lock(rt)
     }
 
     /// Sets the stop flag: from then on a flusher ends where no block may be written.

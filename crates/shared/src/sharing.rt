@@ -20,7 +20,7 @@ impl<L: Lane, G: Gate, K: Naming> Locked<Hub<L, K>, G> {
         requires { call.now ≢ Drain }
         ensures { MayAnswer L.bytes_of L.crash_leaves fs.number call.now result }
     {
-        let mut hub = self.lock(rt);
+        let mut hub = self.held.lock(rt);
         hub.is_sound();
         hub.call(fs, call)
     }
@@ -32,7 +32,7 @@ impl<L: Lane, G: Gate, K: Naming> Locked<Hub<L, K>, G> {
         ensures grows { slice_index reader.old.seen fs.number ≤ result }
         ensures seen { reader.new ≡ record reader.old { seen = slice_set reader.old.seen fs.number result } }
     {
-        let mut hub = self.lock(rt);
+        let mut hub = self.held.lock(rt);
         hub.is_sound();
         hub.meet(fs, reader)
     }

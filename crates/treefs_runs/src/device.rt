@@ -53,7 +53,7 @@ impl Recorder<Running> {
 
     /// Begins the least block that may be written.
     fn begin_next(&mut self) -> Option<u32> {
-        let block = self.running().kernel().pick()?;
+        let block = self.running().kernel().state().pick()?;
         match self.step(&Event::Begin(block)) {
             Reply::Begun { .. } => Some(block),
             _ => None,

@@ -87,7 +87,7 @@ fn make(alloc: Global, store: &mut Running, fs: Fs, change: Change) -> Result<()
 /// Writes all that is pending, in at most so many steps; whether they were enough.
 fn write(store: &mut Running, steps: &mut u32) -> bool {
     for _ in 0..MOST_WRITES {
-        let Some(block) = store.kernel().pick() else {
+        let Some(block) = store.kernel().state().pick() else {
             return true;
         };
         for event in [
@@ -157,7 +157,7 @@ fn crash(
     before: Option<Files>,
     after: Option<Files>,
 ) -> Result<Left, Fault> {
-    let mut world = store.into_world();
+    let mut world = World::up(store);
     let _ = world.step(rt, &Event::Crash(blocks(alloc, keeps)?));
     let Ok(store) = world.into_running() else {
         return Err(Fault::Kernel(Refusal::NoMemory));

@@ -184,8 +184,8 @@ fn a_finish_asks_for_a_sync(rt: HostRuntime) {
 /// The type and the root that a file system is told of block 1, whether block 0 and block 1 are tainted, and how many are free.
 fn told(kernel: &Kernel<PlanLane>, fs: Fs) -> (Option<u32>, Option<u32>, [bool; 2], u32) {
     let kind = kernel.kind(fs, 1).ok();
-    let tainted = [kernel.tainted(0), kernel.tainted(1)];
-    (kind, kernel.root(fs), tainted, kernel.free())
+    let tainted = [kernel.state().tainted(0), kernel.state().tainted(1)];
+    (kind, kernel.root(fs), tainted, kernel.state().free())
 }
 
 #[test]

@@ -31,6 +31,6 @@ impl Disk for Running {
     }
 
     fn free(&self) -> u32 {
-        self.kernel().free()
+        self.kernel().state().free()
     }
 }

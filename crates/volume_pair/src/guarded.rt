@@ -15,7 +15,7 @@ use std::alloc::Global;
 use std::marker::Model;
 use std::thread::Threads;
 use templates::Template;
-use world::{Event, Reply, Running};
+use world::{Event, Reply, Running, World};
 use xn_model::Refusal;
 use xn_state::{Edit, Store};
 
@@ -121,7 +121,7 @@ fn crashed(
         VolumeKeeps (own_types r.0.state) library_layout fs no_edits r.0.state) }
 {
     templates_are_the_librarys();
-    let mut world = running.into_world();
+    let mut world = World::up(running);
     world.rules();
     let reply = world.step(rt, &Event::Crash(kept));
     let Ok(running) = world.into_running() else {
@@ -233,6 +233,6 @@ impl Guarded<Running> {
 
     /// The least block that may be written.
     pub fn pick(&self) -> Option<u32> {
-        self.store.kernel().pick()
+        self.store.kernel().state().pick()
     }
 }

@@ -37,7 +37,7 @@ impl<K: Naming> Disk for Hub<MemLane, K> {
     }
 
     fn free(&self) -> u32 {
-        self.kernel().free()
+        self.kernel().state().free()
     }
 }
 

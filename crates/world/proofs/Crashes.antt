@@ -1,5 +1,5 @@
 -- What a crash leaves, and a world that is down.
-use Rattle.std.proofs.Common.{◌≡◌, ◌∙◌, ◌<◌, zero, suc, [], ◌∷◌, arith, List, length, Option, Some, None, refl, sym, ap, inl, inr, subst, ℕ}
+use Rattle.std.proofs.Common.{◌≡◌, ◌∙◌, ◌<◌, zero, suc, [], ◌∷◌, arith, List, length, None, refl, ap, inl, inr, subst, ℕ}
 use Rattle.xn_model.specs.Images.{block_of}
 use Rattle.xn_model.specs.Mounts.{recovered}
 use Rattle.xn_model.specs.Worlds.{Down, given_at, none_given, left_at, left, mount_reply, AfterCrash}

@@ -16,4 +16,5 @@ pub mod Crashes
 pub mod AtRest
 pub mod Formats
 pub mod Ticketing
+pub mod Working
 pub mod ForCallers

@@ -1,12 +1,14 @@
 -- The places of tickets, of which only the first ones are made.
-use Rattle.std.proofs.Common.{true, ◌≡◌, ℕ, zero, suc, ◌+◌, ◌-◌, ◌<◌, ◌≤◌, List, [], ◌∷◌, ◌++◌, length, replicate, Option, Some, None, Result, refl, sym, ◌∙◌, ap, arith, slice_set, append_assoc, length-append}
+use Rattle.std.proofs.Common.{◌≡◌, ℕ, zero, suc, ◌+◌, ◌-◌, ◌<◌, ◌≤◌, List, [], ◌∷◌, ◌++◌, length, replicate, Option, Some, None, Result, refl, sym, ◌∙◌, ap, arith, slice_set, append_assoc, length-append}
 use Rattle.std.proofs.lemmas.Option.{none-some}
 use Rattle.std.proofs.lemmas.List.{length-set, length-replicate}
 use Rattle.disk.specs.declared.lane.DeviceFault.{DeviceFault}
 use Rattle.disk.specs.Mem.{MemoryLane}
 use Rattle.xn_kernel.specs.Kernels.{TicketValue}
-use Rattle.world.specs.Disks.{all_places, synced_ticket, IsWritten, IsSyncAnswered}
+use Rattle.world.specs.Disks.{all_places}
 use Rattle.world.specs.Worlds.{Tickets}
+use Rattle.world.specs.Works.{IsWorked}
+use Rattle.world.specs.declared.ticket.Work.{Work}
 use Rattle.world.proofs.Places.{place_at}
 
 module _ {A : Type 0} where
@@ -68,14 +70,8 @@ module _ (blocks : ℕ) (front : Tickets) where
       let all = length-append front (replicate (blocks - length front) None) in
       omega arith
 
-  pub written_places : (told : MemoryLane → MemoryLane) (b : ℕ) (answer : Option (Result (Unit {0}) DeviceFault)) (after : Tickets) → IsWritten told front b answer after
-      → IsWritten told (all_places blocks front) b answer (all_places blocks after)
-  written_places told b None after h = (place_behind b ∙ h.0, ap (all_places blocks) h.1)
-  written_places told b (Some answer) after h =
-      (h.0, h.1, place_behind b ∙ h.2, h.3, ap (all_places blocks) h.4 ∙ set_place b (Some (record h.0 { lane = h.1; unsynced = true })) (full_within front b h.0 h.2))
-
-  pub synced_places : (told : MemoryLane → MemoryLane) (b : ℕ) (answer : Option (Result (Unit {0}) DeviceFault)) (after : Tickets) → IsSyncAnswered told front b answer after
-      → IsSyncAnswered told (all_places blocks front) b answer (all_places blocks after)
-  synced_places told b None after h = (place_behind b ∙ h.0, ap (all_places blocks) h.1)
-  synced_places told b (Some answer) after h =
-      (h.0, h.1, place_behind b ∙ h.2, h.3, ap (all_places blocks) h.4 ∙ set_place b (Some (synced_ticket h.0 answer h.1)) (full_within front b h.0 h.2))
+  pub worked_places : (work : Work) (b : ℕ) (answer : Option (Result (Unit {0}) DeviceFault)) (after : Tickets) → IsWorked work front b answer after →
+      IsWorked work (all_places blocks front) b answer (all_places blocks after)
+  worked_places work b None after h = (place_behind b ∙ h.0, ap (all_places blocks) h.1)
+  worked_places work b (Some answer) after h =
+      (h.0, h.1, place_behind b ∙ h.2, h.3, ap (all_places blocks) h.4 ∙ set_place b (Some h.1) (full_within front b h.0 h.2))

@@ -1,9 +1,9 @@
 -- The blocks of a disk, of which some lanes are at home and some with tickets.
-use Rattle.std.specs.Prelude.{◌≡◌, ℕ, ◌-◌, ◌<◌, Bool, List, [], ◌∷◌, ◌++◌, All, length, replicate, Option, Some, None, Result, true, false, Ok, Err, unwrap_or}
+use Rattle.std.specs.Prelude.{◌≡◌, ℕ, ◌-◌, ◌<◌, List, [], ◌∷◌, ◌++◌, All, length, replicate, Option, Some, None, Result, false, Ok, Err, unwrap_or}
 use Rattle.std.specs.Prelude.{slice_get, slice_set, option_map, ⊤}
 use Rattle.std.specs.List.{AllByRecursion}
 use Rattle.disk.specs.declared.lane.DeviceFault.{DeviceFault}
-use Rattle.disk.specs.Mem.{MemoryLane, memory_write, memory_sync, crashed_lane}
+use Rattle.disk.specs.Mem.{MemoryLane, crashed_lane}
 use Rattle.xn_model.specs.Lists.{has_number}
 use Rattle.xn_kernel.specs.Kernels.{TicketValue}
 
@@ -91,35 +91,7 @@ pub record IsUnmounted (lanes : List (Option MemoryLane)) (tickets : List (Optio
 abbrev pub all_places : ℕ → List (Option (TicketValue MemoryLane)) → List (Option (TicketValue MemoryLane))
 all_places blocks front = front ++ replicate (blocks - length front) None
 
--- a write of block b is answered, where it has a ticket, whose lane is told something before
-abbrev pub IsWritten : (MemoryLane → MemoryLane) → List (Option (TicketValue MemoryLane)) → ℕ → Option (Result (Unit {0}) DeviceFault) →
-    List (Option (TicketValue MemoryLane)) → Type 0
-IsWritten told tickets b None after = (ticket_at tickets b ≡ None) × (after ≡ tickets)
-IsWritten told tickets b (Some answer) after =
-    (ticket : TicketValue MemoryLane) × (lane : MemoryLane) × (ticket_at tickets b ≡ Some ticket) × memory_write (told ticket.lane) ticket.bytes answer lane
-    × (after ≡ slice_set tickets b (Some (record ticket { lane = lane; unsynced = true })))
-
-abbrev pub IsLanded : List (Option (TicketValue MemoryLane)) → ℕ → Option (Result (Unit {0}) DeviceFault) → List (Option (TicketValue MemoryLane)) → Type 0
-IsLanded tickets b answer after = IsWritten (λ lane. lane) tickets b answer after
-
-abbrev pub IsFailed : List (Option (TicketValue MemoryLane)) → ℕ → Bool → Option (Result (Unit {0}) DeviceFault) → List (Option (TicketValue MemoryLane)) →
-    Type 0
-IsFailed tickets b new_bytes_stay answer after = IsWritten (λ lane. record lane { write_fault = Some new_bytes_stay }) tickets b answer after
-
--- a sync of block b is answered, where it has a ticket, whose lane is told something before; it knows from then on whether that holds a write
+-- a ticket after a sync: it knows from then on whether its lane holds a write
 abbrev pub synced_ticket : TicketValue MemoryLane → Result (Unit {0}) DeviceFault → MemoryLane → TicketValue MemoryLane
 synced_ticket ticket (Ok done) lane = record ticket { lane = lane; unsynced = false }
 synced_ticket ticket (Err fault) lane = record ticket { lane = lane }
-
-abbrev pub IsSyncAnswered : (MemoryLane → MemoryLane) → List (Option (TicketValue MemoryLane)) → ℕ → Option (Result (Unit {0}) DeviceFault) →
-    List (Option (TicketValue MemoryLane)) → Type 0
-IsSyncAnswered told tickets b None after = (ticket_at tickets b ≡ None) × (after ≡ tickets)
-IsSyncAnswered told tickets b (Some answer) after =
-    (ticket : TicketValue MemoryLane) × (lane : MemoryLane) × (ticket_at tickets b ≡ Some ticket) × memory_sync (told ticket.lane) answer lane
-    × (after ≡ slice_set tickets b (Some (synced_ticket ticket answer lane)))
-
-abbrev pub IsSynced : List (Option (TicketValue MemoryLane)) → ℕ → Option (Result (Unit {0}) DeviceFault) → List (Option (TicketValue MemoryLane)) → Type 0
-IsSynced tickets b answer after = IsSyncAnswered (λ lane. lane) tickets b answer after
-
-abbrev pub IsSyncFailed : List (Option (TicketValue MemoryLane)) → ℕ → Option (Result (Unit {0}) DeviceFault) → List (Option (TicketValue MemoryLane)) → Type 0
-IsSyncFailed tickets b answer after = IsSyncAnswered (λ lane. record lane { sync_fault = true }) tickets b answer after

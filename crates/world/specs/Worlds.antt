@@ -1,5 +1,5 @@
 -- A world, as its kernel and its tickets make it.
-use Rattle.std.specs.Prelude.{◌≡◌, ℕ, List, [], length, Option, Some, None, Bool, true, false, is_some, option_map, slice_get, ⊤}
+use Rattle.std.specs.Prelude.{◌≡◌, ℕ, List, length, Option, Some, Bool, true, false, is_some, option_map, slice_get}
 use Rattle.std.specs.List.{list_any}
 use Rattle.disk.specs.Mem.{MemoryLane}
 use Rattle.xn_model.specs.Lives.{StoreState, life_at, alive_and}

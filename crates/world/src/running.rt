@@ -6,13 +6,12 @@ ghost use Rattle.xn_model.specs.Images.{block_of, joined};
 ghost use Rattle.xn_model.specs.Calls.{free_of};
 ghost use Rattle.xn_model.specs.Worlds as model;
 ghost use Rattle.xn_model.specs.Rules.{Holds};
-ghost use Rattle.xn_kernel.specs.Kernels.{is_in_flight};
 ghost use Rattle.xn_state.specs.Events.{event_of, reply_of, IsNoCrash};
-ghost use Rattle.world.specs.Worlds.{is_any_in_flight, world_with, value_of, IsWorld};
+ghost use Rattle.world.specs.Worlds.{world_with, value_of, IsWorld};
 
+use crate::ticket::Work;
 use crate::tickets::Tickets;
 use crate::unmounted::{UnmountedDisk, crash_lanes, take_lanes_back, write_lanes};
-use crate::world::World;
 use disk::{BLOCK_LEN, MemLane};
 use std::alloc::{AllocError, Allocator, Global};
 use std::io;
@@ -28,7 +27,7 @@ mod store;
 /// A world that is up: a disk in memory with its kernel, and the tickets of the writes that are under way. It is a store, whose calls are those of
 /// clients, and a disk, whose events go on beside them.
 pub struct Running<A: Allocator = Global> {
-    alloc: Global,
+    pub(crate) alloc: Global,
     kernel: Kernel<MemLane<A>>,
     tickets: Tickets<A>,
 }
@@ -67,13 +66,6 @@ impl<A: Allocator> Running<A> {
         }
     }
 
-    /// The world again.
-    pub fn into_world(self) -> World<A>
-        ensures { result ≡ self }
-    {
-        World::up(self.alloc, self)
-    }
-
     /// The kernel, to be asked: what would change it passes the tickets by.
     pub fn kernel(&self) -> &Kernel<MemLane<A>>
         ensures { result.now.state ≡ self.now.state }
@@ -105,10 +97,16 @@ impl<A: Allocator> Running<A> {
             Event::Call(fs, call) => self.call(*fs, call, reply),
             Event::Install(template) => self.install(template, reply),
             Event::Begin(block) => self.begin(*block, reply),
-            Event::Land(block) => self.land(*block, reply),
-            Event::Fail(block, new_bytes_stay) => self.fail(*block, *new_bytes_stay, reply),
-            Event::Sync(block) => self.sync(*block, reply),
-            Event::FailSync(block) => self.fail_sync(*block, reply),
+            Event::Land(block) => self.work(*block, Work::Land, reply),
+            Event::Fail(block, stay) => self.work(
+                *block,
+                Work::Fail {
+                    new_bytes_stay: *stay,
+                },
+                reply,
+            ),
+            Event::Sync(block) => self.work(*block, Work::Sync, reply),
+            Event::FailSync(block) => self.work(*block, Work::FailSync, reply),
             Event::Finish(block) => self.finish(*block, reply),
             Event::Crash(_kept) => unreachable!(),
         }
@@ -118,7 +116,7 @@ impl<A: Allocator> Running<A> {
     pub(crate) fn counts(&self) -> Reply
         ensures { reply_of result ≡ model.Mounted (length self.now.state.lives - free_of self.now.state) (free_of self.now.state) }
     {
-        let free = self.kernel.free();
+        let free = self.kernel.state().free();
         Reply::Mounted {
             reached: self.blocks() as u32 - free,
             free,
@@ -176,35 +174,6 @@ impl<A: Allocator> Running<A> {
         write_lanes(alloc, lanes, out)
     }
 
-    /// Whether a write of the block is under way.
-    pub(crate) fn is_in_flight(&self, block: u32) -> bool
-        ensures flight { result ≡ is_in_flight self.now.state block }
-        ensures up { self.now.down ≡ false }
-    {
-        self.tickets.get(block).is_some()
-    }
-
-    /// Whether a write of some block is under way.
-    pub(crate) fn is_any_in_flight(&self) -> bool
-        ensures { result ≡ is_any_in_flight self.now.state }
-    {
-        self.rules();
-        for block in 0..self.blocks() {
-            if self.is_in_flight(block as u32) {
-                return true;
-            }
-        }
-        false
-    }
-
-    /// Whether it is down, which no mounted disk is.
-    pub(crate) fn is_down(&self) -> bool
-        ensures { result ≡ self.now.down }
-    {
-        let _kernel = &self.kernel;
-        false
-    }
-
     /// The rules hold of every world. This does nothing.
     pub fn rules(&self)
         ensures { Holds (world_with self.now) }
@@ -242,7 +211,7 @@ impl<A: Allocator> Running<A> {
         match self.kernel.lane(block as u32) {
             Some(lane) => lane.bytes(),
             None => match self.tickets.get(block as u32) {
-                Some(ticket) => ticket.lane().bytes(),
+                Some(ticket) => ticket.ticket().lane().bytes(),
                 None => unreachable!(),
             },
         }

@@ -1,11 +1,25 @@
 // A ticket that may be dropped.
 
-ghost use Rattle.std.specs.Prelude.{◌≡◌, Some};
+ghost use Rattle.std.specs.Prelude.{◌≡◌};
+ghost use Rattle.world.specs.Works.{Works};
 
 use disk::{DeviceFault, MemLane};
 use std::alloc::Allocator;
 use std::marker::Model;
 use xn_kernel::Ticket;
+
+/// What is done with the block of a write that is under way.
+#[derive(Clone, Copy)]
+pub enum Work {
+    /// It is written.
+    Land,
+    /// Its write fails, and it holds the new bytes or the old ones.
+    Fail { new_bytes_stay: bool },
+    /// It is synced.
+    Sync,
+    /// Its sync fails.
+    FailSync,
+}
 
 /// The ticket of a write that is under way. Where it is dropped, the write is given up.
 pub struct DroppableTicket<A: Allocator> {
@@ -29,10 +43,6 @@ impl<A: Allocator> Drop for DroppableTicket<A> {
 }
 
 impl<A: Allocator> DroppableTicket<A> {
-    ghost use Rattle.std.specs.Prelude.{OnOk, OnErr, true, false};
-    ghost use Rattle.disk.specs.Mem.{memory_write, memory_sync};
-    ghost use Rattle.world.specs.Disks.{synced_ticket};
-
     pub fn new(ticket: Ticket<MemLane<A>>) -> DroppableTicket<A>
         ensures { result ≡ ticket }
     {
@@ -54,44 +64,28 @@ impl<A: Allocator> DroppableTicket<A> {
         self.into_ticket().into_lane()
     }
 
-    /// The lane, for looking.
-    pub fn lane(&self) -> &MemLane<A>
-        ensures { result.now ≡ self.now.lane }
+    /// The ticket, for looking.
+    pub fn ticket(&self) -> &Ticket<MemLane<A>>
+        ensures { result.now ≡ self.now }
     {
-        self.ticket.lane()
+        &self.ticket
     }
 
-    /// Carries the write out.
-    pub fn land(&mut self) -> Result<(), DeviceFault>
-        ensures ticket { self.new ≡ record self.old { lane = self.new.lane; unsynced = true } }
-        ensures gives { memory_write self.old.lane self.old.bytes result self.new.lane }
+    /// Does this work with the block.
+    pub fn work(&mut self, work: Work) -> Result<(), DeviceFault>
+        ensures { Works work self.old result self.new }
     {
-        self.ticket.land()
-    }
-
-    /// Lets the write fail, and the block hold the new bytes or the old ones.
-    pub fn fail(&mut self, new_bytes_stay: bool) -> Result<(), DeviceFault>
-        ensures ticket { self.new ≡ record self.old { lane = self.new.lane; unsynced = true } }
-        ensures gives { memory_write (record self.old.lane { write_fault = Some new_bytes_stay }) self.old.bytes result self.new.lane }
-    {
-        self.ticket.fail_next_write(new_bytes_stay);
-        self.ticket.land()
-    }
-
-    /// Syncs the block.
-    pub fn sync(&mut self) -> Result<(), DeviceFault>
-        ensures ticket { self.new ≡ synced_ticket self.old result self.new.lane }
-        ensures gives { memory_sync self.old.lane result self.new.lane }
-    {
-        self.ticket.sync()
-    }
-
-    /// Lets a sync of the block fail.
-    pub fn fail_sync(&mut self) -> Result<(), DeviceFault>
-        ensures ticket { self.new ≡ synced_ticket self.old result self.new.lane }
-        ensures gives { memory_sync (record self.old.lane { sync_fault = true }) result self.new.lane }
-    {
-        self.ticket.fail_next_sync();
-        self.ticket.sync()
+        match work {
+            Work::Land => self.ticket.land(),
+            Work::Fail { new_bytes_stay } => {
+                self.ticket.fail_next_write(new_bytes_stay);
+                self.ticket.land()
+            }
+            Work::Sync => self.ticket.sync(),
+            Work::FailSync => {
+                self.ticket.fail_next_sync();
+                self.ticket.sync()
+            }
+        }
     }
 }

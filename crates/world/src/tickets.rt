@@ -2,10 +2,10 @@
 
 ghost use Rattle.std.specs.Prelude.{◌≡◌, ◌++◌, ◌+◌, ◌-◌, ◌<◌, ◌≤◌, length, replicate, [], Some, None, IfOk, IfSome, IfNone, slice_set, vec_capacity};
 ghost use Rattle.std.specs.Option.{option_copied};
-ghost use Rattle.disk.specs.Mem.{memory_write, memory_sync};
-ghost use Rattle.world.specs.Disks.{ticket_at, IsLanded, IsFailed, IsSynced, IsSyncFailed};
+ghost use Rattle.world.specs.Disks.{ticket_at};
+ghost use Rattle.world.specs.Works.{IsWorked};
 
-use crate::ticket::DroppableTicket;
+use crate::ticket::{DroppableTicket, Work};
 use disk::DeviceFault;
 use std::alloc::{AllocError, Allocator, Global};
 use std::marker::Model;
@@ -70,7 +70,11 @@ impl<A: Allocator> Tickets<A> {
     pub fn get(&self, block: u32) -> Option<&DroppableTicket<A>>
         ensures { option_copied result ≡ ticket_at self.now block }
     {
-        ticket_of(&self.front, block)
+        match self.front.get(block as usize) {
+            Some(Some(ticket)) => Some(ticket),
+            Some(None) => None,
+            None => None,
+        }
     }
 
     /// Puts a ticket into the place of a block.
@@ -93,46 +97,17 @@ impl<A: Allocator> Tickets<A> {
         self.front[block as usize].take()
     }
 
-    /// Carries out the write of a block, if there is a ticket for it.
-    pub fn land(&mut self, block: u32) -> Option<Result<(), DeviceFault>>
-        ensures { IsLanded self.old block result self.new }
+    /// Does this work with a block, if there is a ticket for it.
+    pub fn work(&mut self, block: u32, work: Work) -> Option<Result<(), DeviceFault>>
+        ensures { IsWorked work self.old block result self.new }
     {
-        land_at(&mut self.front, block)
-    }
-
-    /// Lets the write of a block fail, if there is a ticket for it, and the block hold the new bytes or the old ones.
-    pub fn fail(&mut self, block: u32, new_bytes_stay: bool) -> Option<Result<(), DeviceFault>>
-        ensures { IsFailed self.old block new_bytes_stay result self.new }
-    {
-        fail_at(&mut self.front, block, new_bytes_stay)
-    }
-
-    /// Syncs a block, if there is a ticket for it.
-    pub fn sync(&mut self, block: u32) -> Option<Result<(), DeviceFault>>
-        ensures { IsSynced self.old block result self.new }
-    {
-        sync_at(&mut self.front, block)
-    }
-
-    /// Lets the sync of a block fail, if there is a ticket for it.
-    pub fn fail_sync(&mut self, block: u32) -> Option<Result<(), DeviceFault>>
-        ensures { IsSyncFailed self.old block result self.new }
-    {
-        fail_sync_at(&mut self.front, block)
-    }
-}
-
-/// The ticket of a block among the first places.
-fn ticket_of<A: Allocator>(
-    front: &[Option<DroppableTicket<A>>],
-    block: u32,
-) -> Option<&DroppableTicket<A>>
-    ensures { option_copied result ≡ ticket_at front.now block }
-{
-    match front.get(block as usize) {
-        Some(Some(ticket)) => Some(ticket),
-        Some(None) => None,
-        None => None,
+        if block as usize >= self.front.len() {
+            return None;
+        }
+        match &mut self.front[block as usize] {
+            None => None,
+            Some(ticket) => Some(ticket.work(work)),
+        }
     }
 }
 
@@ -144,78 +119,5 @@ fn make_places<A: Allocator>(front: &mut Vec<Option<DroppableTicket<A>>>, count:
 {
     for _place in front.len()..count {
         front.push_reserved(None);
-    }
-}
-
-/// Carries out the write of a block, if there is a ticket for it.
-fn land_at<A: Allocator>(
-    front: &mut Vec<Option<DroppableTicket<A>>>,
-    block: u32,
-) -> Option<Result<(), DeviceFault>>
-    ensures landed { IsLanded front.old.items block result front.new.items }
-    ensures count { length front.new.items ≡ length front.old.items }
-    ensures capacity { vec_capacity front.new ≡ vec_capacity front.old }
-{
-    if block as usize >= front.len() {
-        return None;
-    }
-    match &mut front[block as usize] {
-        None => None,
-        Some(ticket) => Some(ticket.land()),
-    }
-}
-
-/// Lets the write of a block fail, if there is a ticket for it.
-fn fail_at<A: Allocator>(
-    front: &mut Vec<Option<DroppableTicket<A>>>,
-    block: u32,
-    new_bytes_stay: bool,
-) -> Option<Result<(), DeviceFault>>
-    ensures failed { IsFailed front.old.items block new_bytes_stay result front.new.items }
-    ensures count { length front.new.items ≡ length front.old.items }
-    ensures capacity { vec_capacity front.new ≡ vec_capacity front.old }
-{
-    if block as usize >= front.len() {
-        return None;
-    }
-    match &mut front[block as usize] {
-        None => None,
-        Some(ticket) => Some(ticket.fail(new_bytes_stay)),
-    }
-}
-
-/// Syncs a block, if there is a ticket for it.
-fn sync_at<A: Allocator>(
-    front: &mut Vec<Option<DroppableTicket<A>>>,
-    block: u32,
-) -> Option<Result<(), DeviceFault>>
-    ensures synced { IsSynced front.old.items block result front.new.items }
-    ensures count { length front.new.items ≡ length front.old.items }
-    ensures capacity { vec_capacity front.new ≡ vec_capacity front.old }
-{
-    if block as usize >= front.len() {
-        return None;
-    }
-    match &mut front[block as usize] {
-        None => None,
-        Some(ticket) => Some(ticket.sync()),
-    }
-}
-
-/// Lets the sync of a block fail, if there is a ticket for it.
-fn fail_sync_at<A: Allocator>(
-    front: &mut Vec<Option<DroppableTicket<A>>>,
-    block: u32,
-) -> Option<Result<(), DeviceFault>>
-    ensures failed { IsSyncFailed front.old.items block result front.new.items }
-    ensures count { length front.new.items ≡ length front.old.items }
-    ensures capacity { vec_capacity front.new ≡ vec_capacity front.old }
-{
-    if block as usize >= front.len() {
-        return None;
-    }
-    match &mut front[block as usize] {
-        None => None,
-        Some(ticket) => Some(ticket.fail_sync()),
     }
 }

@@ -85,7 +85,7 @@ impl World {
     {
         are_templates(templates);
         let image = format_image(alloc, blocks, templates)?;
-        match World::open_image(rt, alloc, image) {
+        match World::open_image(rt, alloc, alloc, image) {
             Ok(world) => Ok(world),
             Err(fault) => Err(want_of_memory(fault)),
         }
@@ -112,27 +112,13 @@ impl World {
             Err(_) => Err(ImageFault::NoMemory),
         }
     }
-
-    /// The same, where the bytes are not wanted any more: the disk takes their memory over.
-    pub fn open_image(
-        rt: &(impl Threads + Sync),
-        alloc: Global,
-        image: Vec<u8>,
-    ) -> Result<World, ImageFault>
-        ensures ok { IfOk result (λ world. IsSoundImage (types_of_image (blocks_in image.items)) image.items
-            × (world_with world ≡ mounted_disk language (blocks_in image.items))) }
-        ensures held { OnOk result (IsHeldWhole image.items) }
-        ensures err { IfErr result (IsOpenFault image.items) }
-        ensures head_first { IfErr result (λ fault. fault ≡ ImageFault.NoMemory → head_fault image.items ≡ None) }
-    {
-        World::open_image_in(rt, alloc, alloc, image)
-    }
 }
 
 impl<A: Allocator + Copy> World<A> {
-    /// The same, where the memory of each lane's second lot of bytes is taken from `rooms`. It is asked for at once, since no write may want any, and
-    /// first used by a write: from an allocator that keeps nothing beside what it gives, blocks that are never written take no page for it.
-    pub fn open_image_in(
+    /// The disk of an image as `open` has it, where its bytes are not wanted any more: the disk takes their memory over. The memory of each
+    /// lane's second lot of bytes is taken from `rooms`. It is asked for at once, since no write may want any, and first used by a write:
+    /// from an allocator that keeps nothing beside what it gives, blocks that are never written take no page for it.
+    pub fn open_image(
         rt: &(impl Threads + Sync),
         alloc: Global,
         rooms: A,
@@ -157,7 +143,7 @@ impl<A: Allocator + Copy> World<A> {
         ensures err { IfErr result (λ fault. fault ≡ ImageFault.NoMemory) }
     {
         match UnmountedDisk::of_image(alloc, rooms, image) {
-            Ok(disk) => Ok(World::up(alloc, disk.mount_known(alloc, state))),
+            Ok(disk) => Ok(World::up(disk.mount_known(alloc, state))),
             Err(_) => Err(ImageFault::NoMemory),
         }
     }
@@ -276,7 +262,10 @@ impl<A: Allocator> World<A> {
         ensures up { IsTrue result → self.now.down ≡ false }
     {
         match &self.disk {
-            WorldDisk::Up(running) => running.is_in_flight(block),
+            WorldDisk::Up(running) => {
+                running.is_up();
+                running.kernel().state().is_in_flight(block)
+            }
             WorldDisk::Down(_) => false,
         }
     }
@@ -286,7 +275,7 @@ impl<A: Allocator> World<A> {
         ensures { result ≡ is_any_in_flight self.now.state }
     {
         match &self.disk {
-            WorldDisk::Up(running) => running.is_any_in_flight(),
+            WorldDisk::Up(running) => running.kernel().state().is_any_in_flight(),
             WorldDisk::Down(_) => false,
         }
     }
@@ -296,17 +285,20 @@ impl<A: Allocator> World<A> {
         ensures { result ≡ self.now.down }
     {
         match &self.disk {
-            WorldDisk::Up(running) => running.is_down(),
+            WorldDisk::Up(running) => {
+                running.is_up();
+                false
+            }
             WorldDisk::Down(_) => true,
         }
     }
 
     /// The world that is up so.
-    pub(crate) fn up(alloc: Global, running: Running<A>) -> World<A>
+    pub fn up(running: Running<A>) -> World<A>
         ensures { result ≡ running }
     {
         World {
-            alloc,
+            alloc: running.alloc,
             disk: WorldDisk::Up(running),
         }
     }

@@ -21,6 +21,10 @@ use Rattle.xn_kernel.specs.Kernels.{KernelValue, TicketValue, IsKernel, is_in_fl
 use Rattle.xn_kernel.specs.Drains.{Reads, WriteRelation, with_home, Round, Rounds, Unwritten, Unsynced, Unread}
 use Rattle.xn_kernel.specs.Flushes.{HoldsOneOf, Wrote, kernel_with_begun}
 
+-- what is said of a state that was lent
+pub asked : {A : Type 0} (f : StoreState → A) (lent state : StoreState) (x y : A) → lent ≡ state → x ≡ f lent → x ≡ y → f state ≡ y
+asked f lent state x y same is e = ap f (sym same) ∙ (sym is ∙ e)
+
 -- no write is under way
 pub idle_from : (lives : Lives) → list_any (alive_and (λ l. is_some l.begun)) lives ≡ false → IsIdle lives
 idle_from [] e b l at = absurd (none-some l at)

@@ -22,7 +22,6 @@ use std::marker::Model;
 use templates::Table;
 use xn_state::{EditId, Found, Fs, Landed, Refusal, State};
 
-mod answers;
 mod call;
 mod drain;
 mod flush;
@@ -121,6 +120,13 @@ impl<L: Lane> Kernel<L> {
         ensures { IsKernel L.bytes_of L.crash_leaves self.now.lanes self.now.state }
     {
         let _id = self.id;
+    }
+
+    /// What it knows of blocks and types, to be asked: what would change it passes the lanes by.
+    pub fn state(&self) -> &State
+        ensures { result.now ≡ self.now.state }
+    {
+        &self.state
     }
 
     /// The lane of a block, for looking; `None` while a write of the block is under way, and past the

@@ -124,12 +124,15 @@ pub fn begin<S: FlushStore + Drop>(
     word: &Word,
 ) -> Result<Kind, Fault> {
     let kind = kind_of(volume, alloc, word);
-    let pending = volume.session.pending();
-    let is_crowded = pending > FEW_PENDING || (pending > 0 && volume.session.free() < FEW_FREE);
+    let session = &volume.session;
+    let pending = session.store().pending(session.fs());
+    let is_crowded = pending > FEW_PENDING
+        || (pending > 0 && session.store().state().free() < FEW_FREE);
     if is_crowded || !may_join(volume, alloc, word, kind) {
         flush(volume, alloc)?;
     }
-    if volume.session.pending() == 0 {
+    let session = &volume.session;
+    if session.store().pending(session.fs()) == 0 {
         volume.carried.clear();
     }
     Ok(kind)

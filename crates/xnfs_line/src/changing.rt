@@ -97,7 +97,9 @@ fn has_one_name<S: FlushStore + Drop>(
     folder: u16,
     node: &Node,
 ) -> Result<(), Fault> {
-    let names = match volume.session.list(alloc, folder) {
+    let session = &volume.session;
+    let listed = session.volume().list(alloc, session.store(), folder);
+    let names = match listed {
         Ok(names) => names,
         Err(fault) => return Err(fault_at(volume, alloc, path, fault)),
     };

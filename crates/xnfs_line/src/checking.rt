@@ -177,7 +177,7 @@ pub fn repair<S: FlushStore + Drop>(
         Ok(repairs) => repairs,
         Err(fault) => {
             flush(volume, alloc)?;
-            return Err(Fault::of_all(fault, volume.session.free()));
+            return Err(Fault::of_all(fault, volume.session.store().state().free()));
         }
     };
     flush(volume, alloc)?;
@@ -193,9 +193,10 @@ pub fn check<S: FlushStore + Drop>(
 ) -> Result<(), Fault> {
     look_at_all(volume, alloc, out)?;
     tell_count(volume, alloc, out)?;
-    match volume.session.reclaimable() {
+    let session = &volume.session;
+    match session.volume().reclaimable(session.store()) {
         Ok(repairs) => tell_needs(&volume.survey, &repairs, out),
-        Err(fault) => Err(Fault::of_all(fault, volume.session.free())),
+        Err(fault) => Err(Fault::of_all(fault, session.store().state().free())),
     }
 }
 
@@ -211,7 +212,7 @@ fn tell_count<S: FlushStore + Drop>(
         "sound: {} files, {} folders, {} blocks free",
         count.files,
         count.folders,
-        volume.session.free()
+        volume.session.store().state().free()
     )?;
     if count.unfinished > 0 {
         writeln!(

@@ -34,7 +34,11 @@ pub fn fault_at<S: FlushStore + Drop>(
 ) -> Fault {
     match fault {
         FfsFault::Kernel(xn_kernel::Refusal::NoMemory) => Fault::NoMemory,
-        _ => at_bytes(alloc, path, reason_of(fault, volume.session.free())),
+        _ => at_bytes(
+            alloc,
+            path,
+            reason_of(fault, volume.session.store().state().free()),
+        ),
     }
 }
 
@@ -49,7 +53,7 @@ pub fn naming_fault<S: FlushStore + Drop>(
     if fault != FfsFault::Kernel(xn_kernel::Refusal::NoSpace) {
         return fault_at(volume, alloc, path.as_bytes(), fault);
     }
-    let free = volume.session.free();
+    let free = volume.session.store().state().free();
     match volume.session.blocks_for_name(folder, is_new) {
         Ok(own) => {
             let needed = own.saturating_add(more);

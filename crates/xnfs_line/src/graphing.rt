@@ -29,7 +29,7 @@ fn print_owner<S: FlushStore + Drop>(
     out: &mut impl Write,
 ) -> Result<(), Fault> {
     let (block, ty) = (owner.block, owner.ty);
-    let awaited = volume.session.awaited(block);
+    let awaited = volume.session.store().state().awaited(block);
     let style = if awaited.is_some() {
         " style=dashed"
     } else {
@@ -50,7 +50,7 @@ fn print_pending<S: FlushStore + Drop>(
     volume: &Opened<S>,
     out: &mut impl Write,
 ) -> Result<(), Fault> {
-    let pending = volume.session.pending();
+    let pending = volume.session.store().pending(volume.session.fs());
     if pending > 0 {
         writeln!(out, "  label=\"{pending} entries pending\";")?;
     }
@@ -71,7 +71,7 @@ pub fn graph<S: FlushStore + Drop>(
         ty: 0,
         owned: Vec::new(alloc),
     };
-    if let Some(root) = volume.session.root() {
+    if let Some(root) = volume.session.store().root(volume.session.fs()) {
         first.owned.push(root)?;
         waiting.push(root)?;
     }

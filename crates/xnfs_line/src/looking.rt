@@ -90,7 +90,11 @@ pub fn bytes_of<S: FlushStore + Drop>(
 ) -> Result<Vec<u8>, Fault> {
     let length = node.size.min(MOST_BYTES) as usize;
     let mut bytes = vec![in alloc; 0; length]?;
-    match volume.session.read(node.number, 0, &mut bytes) {
+    let session = &volume.session;
+    match session
+        .volume()
+        .read(session.store(), node.number, 0, &mut bytes)
+    {
         Ok(_) => Ok(bytes),
         Err(fault) => Err(fault_at(volume, alloc, path, fault)),
     }

@@ -200,7 +200,7 @@ impl Survey {
         let entries = match session.entries(alloc, number) {
             Ok(entries) => sorted(alloc, entries)?,
             Err(FfsFault::NoEntry | FfsFault::NotDir) => return Ok(()),
-            Err(fault) => return Err(Fault::of_all(fault, session.free())),
+            Err(fault) => return Err(Fault::of_all(fault, session.store().state().free())),
         };
         if let Some(named) = self.inodes.get_mut(usize::from(number)) {
             named.is_folder = true;
@@ -231,7 +231,7 @@ impl Survey {
         let facts = match session.facts(number) {
             Ok(facts) => facts,
             Err(FfsFault::NoEntry) => return Ok(()),
-            Err(fault) => return Err(Fault::of_all(fault, session.free())),
+            Err(fault) => return Err(Fault::of_all(fault, session.store().state().free())),
         };
         if let Some(flaw) = flaw_of_inode(number, &facts, &self.named(number)) {
             self.set_flaw(number, flaw);

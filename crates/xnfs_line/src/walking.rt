@@ -40,7 +40,9 @@ pub fn good_names<S: FlushStore + Drop>(
     path: &[u8],
     folder: u16,
 ) -> Result<Vec<Listed>, Fault> {
-    let mut names = match volume.session.list(alloc, folder) {
+    let session = &volume.session;
+    let listed = session.volume().list(alloc, session.store(), folder);
+    let mut names = match listed {
         Ok(names) => names,
         Err(fault) => return Err(fault_at(volume, alloc, path, fault)),
     };

@@ -90,14 +90,14 @@ fn print_opener<R: Files<File = File> + Print>(rt: &R, alloc: Global) -> Result<
 /// Starts one block more, which is not flushed, and prints how many are free.
 fn print_pending(rt: &impl Print, kernel: &mut Kernel<FileLane>, fs: Fs) -> Result<()> {
     let is_pending = kernel.init(fs, 2, &[0x42; 512]).is_ok();
-    let free = kernel.free();
+    let free = kernel.state().free();
     println!(rt; "one more is pending: {is_pending}, free: {free}")?;
     Ok(())
 }
 
 /// Prints what was kept: how many blocks are free, and how a block begins.
 fn print_kept(rt: &impl Print, kernel: &Kernel<FileLane>, fs: Fs, block: u32) -> Result<()> {
-    let free = kernel.free();
+    let free = kernel.state().free();
     println!(rt; "opened again, free: {free}")?;
     if let Ok(bytes) = kernel.read(fs, block) {
         println!(rt; "block {block} begins with {}", bytes[0])?;

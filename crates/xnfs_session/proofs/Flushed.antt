@@ -9,8 +9,7 @@ use Rattle.xn_model.proofs.ForCallers.{begun_keeps, settled_keeps}
 use Rattle.xn_kernel.specs.Flushes.{wave_room}
 use Rattle.xn_kernel.specs.FlushedStates.{EndsWrite, KeepsNewest, StateRefuses, StateWave, StateWaves}
 use Rattle.flush_store.proofs.ForCallers.{always, refused_keep, waves_keep}
-use Rattle.ffs_model.specs.Library.{library_layout, IsLibrary}
-use Rattle.ffs_model.specs.Volumes.{VolumeKeeps}
+use Rattle.ffs_model.specs.Library.{library_layout}
 use Rattle.ffs_model.proofs.ForCallers.{begin_cuts, begin_next, library_reads, none_later, settle_cuts, settle_next, volume_from}
 use Rattle.ffs_lib.specs.Volumes.{IsVolume, edits_of}
 use Rattle.ffs_lib.specs.declared.volume.Volume.{Volume}

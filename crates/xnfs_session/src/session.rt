@@ -19,15 +19,14 @@ ghost use Rattle.ffs_lib.specs.Results.{MovedInodes};
 ghost use Rattle.ffs_lib.specs.Stages.{Does, KeptOrEmptied, Makes, OnlyMade, Unnames, created_stages, removed_stages, renamed_stages, replaced_stages};
 ghost use Rattle.ffs_lib.specs.Steps.{newest_block};
 ghost use Rattle.ffs_lib.specs.Unnaming.{unname_in};
-ghost use Rattle.ffs_lib.specs.Volumes.{NothingPending, edits_of};
+ghost use Rattle.ffs_lib.specs.Volumes.{IsVolume, NothingPending, edits_of};
 ghost use Rattle.ffs_lib.specs.Written.{DoesSome, Overwrites, WritesSomeTo, some_by};
 ghost use Rattle.ffs_lib.specs.WriteOrder.{ShowsWhole, WritesSomeInOrder, after_in, first_past, reached};
 ghost use Rattle.ffs_lib.specs.declared.data.Last.{Last};
 ghost use Rattle.xn_model.specs.Lives.{StoreState};
-ghost use Rattle.xn_model.specs.Calls.{free_of, pending_of, root_of, tainted_of};
+ghost use Rattle.xn_model.specs.Calls.{free_of};
 ghost use Rattle.xn_model.specs.declared.refusal.Refusal.{Refusal};
 ghost use Rattle.xn_model.specs.Rules.{IsIdle};
-ghost use Rattle.xn_state.specs.Awaits.{awaited_of};
 ghost use Rattle.xn_kernel.specs.FlushedStates.{KeepsNewest, StateRefuses, StateWaves};
 ghost use Rattle.xnfs_session.specs.Kept.{KeepsVolumes};
 ghost use Rattle.xnfs_session.specs.Opening.{MakesBy, OpensBy};
@@ -231,6 +230,29 @@ impl<S: FlushStore + Drop> Session<S> {
         store
     }
 
+    /// The store, for looking: what would change it passes the volume by.
+    pub fn store(&self) -> &S
+        ensures { result.now ≡ self.now.store }
+    {
+        &self.store
+    }
+
+    /// Its volume, for looking.
+    pub fn volume(&self) -> &Volume
+        ensures is { IsVolume (S.types_of self.now.store) (S.state_of self.now.store) result.now }
+        ensures fs { result.now.fs.number ≡ self.now.fs }
+        ensures numbers { result.now.added ≡ self.now.numbers }
+    {
+        &self.volume
+    }
+
+    /// Its file system.
+    pub fn fs(&self) -> Fs
+        ensures { result.number ≡ self.now.fs }
+    {
+        self.fs
+    }
+
     /// Writes all that is pending, and answers how many waves that took, as a flush of its store does; after one that stopped (`Device`) the
     /// session is of no more use.
     pub fn flush(&mut self, alloc: Global) -> Result<u32, Refusal>
@@ -265,13 +287,6 @@ impl<S: FlushStore + Drop> Session<S> {
         self.store.flush_waves(alloc, most)
     }
 
-    /// How many entries of its file system are pending.
-    pub fn pending(&self) -> u32
-        ensures { result ≡ pending_of (S.state_of self.now.store) self.now.fs }
-    {
-        self.store.pending(self.fs)
-    }
-
     /// What stands at an inode in use.
     pub fn node(&self, number: u16) -> Result<Node, FfsFault>
         ensures { result ≡ mapped (node_from number) (inode_in (latest (S.state_of self.now.store).lives) self.now.fs number) }
@@ -286,26 +301,6 @@ impl<S: FlushStore + Drop> Session<S> {
     {
         let slot = named(&self.store, self.fs, directory, name)?;
         Ok(slot.inode)
-    }
-
-    /// The names in a directory and their inodes, in the order of its blocks.
-    pub fn list(&self, alloc: Global, directory: u16) -> Result<Vec<(Vec<u8>, u16)>, FfsFault>
-        ensures value { MatchResult result
-            (λ names. Ok (map (λ name. (name.0.items, name.1)) names.items)
-            ≡ listed (files_of (newest_block (S.state_of self.now.store)) self.now.fs) directory)
-            (λ fault. ((fault ≡ FfsFault.Kernel Refusal.NoMemory) × IsOk (listed (files_of (newest_block (S.state_of self.now.store)) self.now.fs) directory))
-            ⊎ (Err fault ≡ listed (files_of (newest_block (S.state_of self.now.store)) self.now.fs) directory)) }
-    {
-        self.volume.list(alloc, &self.store, directory)
-    }
-
-    /// Reads a file from an offset on, and answers how many bytes there were.
-    pub fn read(&self, inode: u16, offset: u32, bytes: &mut [u8]) -> Result<usize, FfsFault>
-        ensures value { result ≡ mapped length (read (files_of (newest_block (S.state_of self.now.store)) self.now.fs) inode offset (length bytes.old)) }
-        ensures bytes { bytes.new ≡ read_over bytes.old (read (files_of (newest_block (S.state_of self.now.store)) self.now.fs)
-            inode offset (length bytes.old)) }
-    {
-        self.volume.read(&self.store, inode, offset, bytes)
     }
 
     /// Makes an empty file, and answers its inode.
@@ -503,16 +498,6 @@ impl<S: FlushStore + Drop> Session<S> {
             .replace(alloc, &mut self.store, directory, name, other, other_name)
     }
 
-    /// What each inode needs to be in use exactly where it has a name, with as many links as names; `Pending` before what is pending is
-    /// written.
-    pub fn reclaimable(&self) -> Result<Repairs, FfsFault>
-        ensures exact { mapped (λ repairs. tt) result ≡ idle_in (S.state_of self.now.store) self.now.fs }
-        ensures each { IfOk result (λ repairs. (n : ℕ) →
-            repair_at repairs.each n ≡ needs (files_of (newest_block (S.state_of self.now.store)) self.now.fs) n) }
-    {
-        self.volume.reclaimable(&self.store)
-    }
-
     /// Does with each inode what it needs, and answers that; `Pending` before what is pending is written.
     pub fn reclaim(&mut self, alloc: Global) -> Result<Repairs, FfsFault>
         ensures types { S.types_of self.new.store ≡ S.types_of self.old.store }
@@ -530,13 +515,6 @@ impl<S: FlushStore + Drop> Session<S> {
         self.volume.reclaim(alloc, &mut self.store)
     }
 
-    /// How many blocks of the disk are free.
-    pub fn free(&self) -> u32
-        ensures { result ≡ free_of (S.state_of self.now.store) }
-    {
-        self.store.free()
-    }
-
     /// How many blocks a new name in a directory takes, with `is_new` also the inode that it names: one where the directory's blocks have no
     /// place left, and one where those of the inodes have none. Faults are `NoEntry` and `NotDir` of the directory, and those by which no
     /// name can be made.
@@ -547,13 +525,6 @@ impl<S: FlushStore + Drop> Session<S> {
         let room = find_room(&self.store, self.fs, &found, directory)?;
         let inode = inode_blocks(&self.store, self.fs, is_new)?;
         Ok(entry_blocks(&room) + inode)
-    }
-
-    /// The block in the root slot of its file system.
-    pub fn root(&self) -> Option<u32>
-        ensures { result ≡ root_of (S.state_of self.now.store) self.now.fs }
-    {
-        self.store.root(self.fs)
     }
 
     /// A block of its file system: its type, and the blocks that its newest bytes point to. Faults are those by which the store refuses to read it,
@@ -572,14 +543,6 @@ impl<S: FlushStore + Drop> Session<S> {
         Ok(Owner { block, ty, owned })
     }
 
-    /// The block that the first entry of a block waits for that may not be written yet; `None` where none waits.
-    pub fn awaited(&self, block: u32) -> Option<u32>
-        ensures block { result ≡ awaited_of (S.state_of self.now.store) block }
-        ensures waits { is_some result ≡ tainted_of (S.state_of self.now.store) block }
-    {
-        self.store.awaited(block)
-    }
-
     /// What is taken and what is left.
     pub fn usage(&self) -> Usage
         ensures { result ≡ record {
@@ -594,7 +557,7 @@ impl<S: FlushStore + Drop> Session<S> {
             }
         }
         Usage {
-            free_blocks: self.store.free(),
+            free_blocks: self.store.state().free(),
             used_inodes,
         }
     }

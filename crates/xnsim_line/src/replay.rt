@@ -150,7 +150,7 @@ pub fn run_on_image<'a, A: Allocator + Copy, W: Write>(
     ensures held { OnOk result (IsHeldWhole image.items) }
     ensures fault { IfErr result (IsFaultOnImage image.items) }
 {
-    match World::open_image_in(rt, alloc, rooms, image) {
+    match World::open_image(rt, alloc, rooms, image) {
         Ok(mut world) => {
             let ran = run_asked(rt, alloc, &mut world, lines, stop, out);
             end_run(world, ran)

@@ -210,5 +210,5 @@ fn have_same_floors<L: Lane>(one: &Kernel<L>, two: &Kernel<L>) -> bool {
             _ => return false,
         }
     }
-    one.free() == two.free()
+    one.state().free() == two.state().free()
 }

@@ -48,11 +48,11 @@ fn has_answer<K: Naming, R: Wait>(
     }];
     let answers = match worker(&shared, rt, alloc, fs, &calls) {
         Ok(answers) => answers,
-        Err(_) if shared.with(rt, |hub| hub.kernel().free()) != 31 => return Ok(false),
+        Err(_) if shared.with(rt, |hub| hub.kernel().state().free()) != 31 => return Ok(false),
         Err(_) => worker(&shared, rt, alloc, fs, &calls)?,
     };
     match answers.as_slice() {
-        [Answer::Init(Ok(_))] => Ok(shared.with(rt, |hub| hub.kernel().free()) == 30),
+        [Answer::Init(Ok(_))] => Ok(shared.with(rt, |hub| hub.kernel().state().free()) == 30),
         [Answer::Init(Err(Refusal::NoMemory))] => Err(Miss::NoMemory),
         _ => Ok(false),
     }

@@ -87,7 +87,7 @@ pub fn is_mounted(rt: &(impl Threads + Sync), alloc: Global) -> Result<bool, Mis
     }
     let lanes = fresh_lanes(alloc, &image)?;
     match mount(rt, alloc, lanes, 1) {
-        Ok(kernel) => Ok(kernel.free() == 31),
+        Ok(kernel) => Ok(kernel.state().free() == 31),
         Err((ImageFault::NoMemory, lanes)) => Err(Miss::of(mount(rt, alloc, lanes, 1).is_ok())),
         Err(_) => Err(Miss::Wrong),
     }

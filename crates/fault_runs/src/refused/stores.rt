@@ -68,10 +68,10 @@ impl Blocks {
 fn kernel_looks<L: Lane>(kernel: &Kernel<L>, first: Fs, second: Fs) -> u32 {
     count(&[
         kernel.read(first, 1) == Ok(&[1; 512]) && kernel.root(first) == Some(1),
-        kernel.kind(first, 1) == Ok(2) && !kernel.tainted(1),
+        kernel.kind(first, 1) == Ok(2) && !kernel.state().tainted(1),
         kernel.template(1).is_some() && kernel.template(3).is_none(),
         kernel.pending(second) == 2 && kernel.floor(second) == 2,
-        kernel.free() == 27 && kernel.pick() == Some(2) && kernel.lane(1).is_some(),
+        kernel.state().free() == 27 && kernel.state().pick() == Some(2) && kernel.lane(1).is_some(),
     ])
 }
 
@@ -118,11 +118,11 @@ fn is_given_back(lanes: Lanes<MemLane>, blocks: usize, block: u32) -> bool {
 pub fn hub_looks<L: Lane, K: Naming>(hub: &Hub<L, K>, first: Fs, second: Fs) -> u32 {
     count(&[
         hub.read(first, 1) == Ok(&[1; 512]) && hub.root(first) == Some(1),
-        hub.kind(first, 1) == Ok(2) && !hub.kernel().tainted(1),
+        hub.kind(first, 1) == Ok(2) && !hub.kernel().state().tainted(1),
         hub.template(1).is_some() && hub.template(3).is_none(),
         hub.pending(second) == 2 && hub.floor(second) == 2,
-        hub.kernel().free() == 27
-            && hub.kernel().pick() == Some(2)
+        hub.kernel().state().free() == 27
+            && hub.kernel().state().pick() == Some(2)
             && hub.kernel().lane(1).is_some(),
     ])
 }

@@ -34,7 +34,7 @@ impl<A: Allocator> Running<A> {
             }
             Call::Pending => *reply = Reply::Answered(Answer::Pending(self.pending(fs))),
             Call::Floor => *reply = Reply::Answered(Answer::Floor(self.floor(fs))),
-            Call::Pick => *reply = Reply::Answered(Answer::Pick(self.kernel.pick())),
+            Call::Pick => *reply = Reply::Answered(Answer::Pick(self.kernel.state().pick())),
             Call::Drain => self.drain(fs, reply),
             _ => self.answer(fs, call, reply),
         }

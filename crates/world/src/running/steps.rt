@@ -1,12 +1,13 @@
 // The steps of a write.
 
-ghost use Rattle.std.specs.Prelude.{◌<◌, ◌≤◌, length};
+ghost use Rattle.std.specs.Prelude.{◌≡◌, ◌<◌, ◌≤◌, length};
 ghost use Rattle.xn_model.specs.Worlds as model;
 ghost use Rattle.xn_state.specs.Events.{reply_of};
+ghost use Rattle.world.specs.Works.{done_reply, work_event};
 ghost use Rattle.world.specs.Worlds.{world_with};
 
 use crate::running::Running;
-use crate::ticket::DroppableTicket;
+use crate::ticket::{DroppableTicket, Work};
 use std::alloc::Allocator;
 use xn_state::Reply;
 
@@ -26,50 +27,14 @@ impl<A: Allocator> Running<A> {
         }
     }
 
-    /// The begun write of a block is carried out.
+    /// This work is done with the block of a begun write.
     #[inline(always)]
-    pub(crate) fn land(&mut self, block: u32, reply: &mut Reply)
-        ensures { model.Step (world_with self.old) (model.Land block) (reply_of reply.new) (world_with self.new) }
+    pub(crate) fn work(&mut self, block: u32, work: Work, reply: &mut Reply)
+        ensures { model.Step (world_with self.old) (work_event work block) (reply_of reply.new) (world_with self.new) }
     {
-        match self.tickets.land(block) {
+        match self.tickets.work(block, work) {
             None => *reply = Reply::NoTicket,
-            Some(Ok(())) => *reply = Reply::Landed,
-            Some(Err(_fault)) => unreachable!(),
-        }
-    }
-
-    /// The begun write of a block fails.
-    #[inline(always)]
-    pub(crate) fn fail(&mut self, block: u32, new_bytes_stay: bool, reply: &mut Reply)
-        ensures { model.Step (world_with self.old) (model.Fail block new_bytes_stay) (reply_of reply.new) (world_with self.new) }
-    {
-        match self.tickets.fail(block, new_bytes_stay) {
-            None => *reply = Reply::NoTicket,
-            Some(Ok(())) => unreachable!(),
-            Some(Err(_fault)) => *reply = Reply::Fault,
-        }
-    }
-
-    /// A block is synced.
-    #[inline(always)]
-    pub(crate) fn sync(&mut self, block: u32, reply: &mut Reply)
-        ensures { model.Step (world_with self.old) (model.Sync block) (reply_of reply.new) (world_with self.new) }
-    {
-        match self.tickets.sync(block) {
-            None => *reply = Reply::NoTicket,
-            Some(Ok(())) => *reply = Reply::Synced,
-            Some(Err(_fault)) => unreachable!(),
-        }
-    }
-
-    /// The sync of a block fails.
-    #[inline(always)]
-    pub(crate) fn fail_sync(&mut self, block: u32, reply: &mut Reply)
-        ensures { model.Step (world_with self.old) (model.FailSync block) (reply_of reply.new) (world_with self.new) }
-    {
-        match self.tickets.fail_sync(block) {
-            None => *reply = Reply::NoTicket,
-            Some(Ok(())) => unreachable!(),
+            Some(Ok(())) => *reply = done_reply(work),
             Some(Err(_fault)) => *reply = Reply::Fault,
         }
     }
@@ -90,5 +55,16 @@ impl<A: Allocator> Running<A> {
                 *reply = Reply::Refused(refusal);
             }
         }
+    }
+}
+
+/// What is told of work that was done well.
+#[inline(always)]
+fn done_reply(work: Work) -> Reply
+    ensures { reply_of result ≡ done_reply work }
+{
+    match work {
+        Work::Land | Work::Fail { .. } => Reply::Landed,
+        Work::Sync | Work::FailSync => Reply::Synced,
     }
 }

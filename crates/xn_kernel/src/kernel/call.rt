@@ -30,11 +30,11 @@ impl<L: Lane> Kernel<L> {
             Call::Read { block } => Answer::Read(self.read(fs, *block).copied()),
             Call::Root => Answer::Root(self.root(fs)),
             Call::Kind { block } => Answer::Kind(self.kind(fs, *block)),
-            Call::Tainted { block } => Answer::Tainted(self.tainted(*block)),
+            Call::Tainted { block } => Answer::Tainted(self.state().tainted(*block)),
             Call::Pending => Answer::Pending(self.pending(fs)),
             Call::Floor => Answer::Floor(self.floor(fs)),
-            Call::Free => Answer::Free(self.free()),
-            Call::Pick => Answer::Pick(self.pick()),
+            Call::Free => Answer::Free(self.state().free()),
+            Call::Pick => Answer::Pick(self.state().pick()),
             Call::Drain => unreachable!(),
         }
     }

@@ -23,20 +23,6 @@ pub struct DrainStop<L: Lane> {
 }
 
 impl<L: Lane> Kernel<L> {
-    /// Whether a write of some block is under way.
-    pub(super) fn is_busy(&self) -> bool
-        ensures { result ≡ list_any (alive_and (λ l. is_some l.begun)) self.now.state.lives }
-    {
-        self.state.is_any_in_flight()
-    }
-
-    /// How many entries are pending, of all blocks and file systems.
-    pub(super) fn all_pending(&self) -> u32
-        ensures { result ≡ all_pending self.now.state.lives }
-    {
-        self.state.all_pending()
-    }
-
     /// Writes the block that is picked, syncs it and reads it back. `Err` has the ticket where it could not be synced or read
     /// back; with none the write failed, and the block holds the old bytes.
     #[inline(always)]
@@ -80,17 +66,17 @@ impl<L: Lane> Kernel<L> {
         ensures err { IfErr result (λ stop. Refuses L.bytes_of L.faults_of L.write_gives L.sync_gives L.read_gives self.old stop.writes stop.ticket stop.refusal
             self.new) }
     {
-        if self.is_busy() {
+        if self.state().is_any_in_flight() {
             return Err(DrainStop {
                 writes: 0,
                 ticket: None,
                 refusal: Refusal::InFlight,
             });
         }
-        let most = self.all_pending();
+        let most = self.state().all_pending();
         for writes in 0..most {
             self.keeps_rules();
-            let Some(block) = self.pick() else {
+            let Some(block) = self.state().pick() else {
                 return Ok(writes);
             };
             if let Err(ticket) = self.round(block) {

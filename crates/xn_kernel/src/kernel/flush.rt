@@ -67,7 +67,7 @@ impl<L: Lane> Kernel<L> {
     {
         for blocks in 0..room {
             self.keeps_rules();
-            let Some(block) = self.pick() else {
+            let Some(block) = self.state().pick() else {
                 return blocks;
             };
             let Ok(mut ticket) = self.begin(block) else {
@@ -106,11 +106,11 @@ impl<L: Lane> Kernel<L> {
 
     /// Writes all that is pending in waves: begins and writes up to 4,096 blocks, each as `pick` answers it, then syncs each and reads
     /// it back, again and again, until nothing is pending. Answers how many waves that took, at most as many as entries were pending.
-    /// With a write under way it is refused (`InFlight`), and so it is where there is no memory for the tickets of a wave
-    /// (`NoMemory`): as many as entries are pending, or 4,096; both do nothing. A wave in which a lane fails is the last one (`Device`): its other blocks end as they would
-    /// otherwise; where a write fails and the block holds the old bytes its entries stay pending; where a block can't be synced or read
-    /// back it stays in flight, and the ticket is given out. A write that fails and leaves the new bytes is a good one. What was
-    /// finished stands.
+    /// With a write under way it is refused (`InFlight`), and so it is where there is no memory for the tickets of a wave (`NoMemory`): as
+    /// many as entries are pending, or 4,096; both do nothing. A wave in which a lane fails is the last one (`Device`): its other blocks
+    /// end as they would otherwise; where a write fails and the block holds the old bytes its entries stay pending; where a block can't be
+    /// synced or read back it stays in flight, and the ticket is given out. A write that fails and leaves the new bytes is a good one.
+    /// What was finished stands.
     pub fn flush(&mut self, alloc: Global) -> Result<u32, FlushStop<L>>
         ensures waves { IfOk result (λ waves. Waves L.bytes_of L.faults_of L.write_gives L.sync_gives L.read_gives waves self.old self.new) }
         ensures idle { OnOk result (IsIdle self.old.state.lives) }
@@ -120,7 +120,7 @@ impl<L: Lane> Kernel<L> {
         ensures err { IfErr result (λ stop. FlushRefuses L.bytes_of L.faults_of L.write_gives L.sync_gives L.read_gives self.old
             stop.waves stop.tickets.items stop.refusal self.new) }
     {
-        let most = self.all_pending();
+        let most = self.state().all_pending();
         self.flush_waves(alloc, most)
     }
 
@@ -136,14 +136,14 @@ impl<L: Lane> Kernel<L> {
         ensures err { IfErr result (λ stop. FlushRefuses L.bytes_of L.faults_of L.write_gives L.sync_gives L.read_gives self.old
             stop.waves stop.tickets.items stop.refusal self.new) }
     {
-        if self.is_busy() {
+        if self.state().is_any_in_flight() {
             return Err(FlushStop {
                 waves: 0,
                 tickets: Vec::new(alloc),
                 refusal: Refusal::InFlight,
             });
         }
-        let room = WAVE_ROOM.min(self.all_pending());
+        let room = WAVE_ROOM.min(self.state().all_pending());
         let Ok(mut tickets) = Vec::with_capacity(alloc, room as usize) else {
             return Err(FlushStop {
                 waves: 0,

@@ -2,6 +2,7 @@ use Rattle.std.proofs.Common.{◌≡◌, ◌<◌, ◌∙◌, length, sym, ap, ar
 use Rattle.std.specs.Option.{option_copied}
 use Rattle.disk.specs.Mem.{MemoryLane}
 use Rattle.xn_model.specs.Images.{block_of}
+use Rattle.xn_kernel.specs.Kernels.{TicketValue}
 use Rattle.world.specs.Disks.{image_of}
 use Rattle.world.specs.Worlds.{WorldValue}
 use Rattle.world.proofs.Images.{block_of-home, block_of-away}
@@ -43,5 +44,5 @@ returns-in-Some-get g c =
     let home = sym c.lane.ensures ∙ ap option_copied c.in-None.is in
     let away = empty_get c.self.inside.kernel.lanes c.args.block home (omega arith) in
     let has = sym c.get.ensures ∙ ap option_copied c.in-Some-get.is in
-    c.bytes-in-Some-get.ensures ∙ (ap (λ (l : MemoryLane). l.bytes) c.lane-in-Some-get.ensures
+    c.bytes-in-Some-get.ensures ∙ (ap (λ (l : MemoryLane). l.bytes) (c.lane-in-Some-get.ensures ∙ ap (λ (t : TicketValue MemoryLane). t.lane) c.ticket.ensures)
     ∙ (sym (block_of-away c.self.inside.kernel.lanes c.self.inside.tickets c.args.block c.in-Some-get.ticket.now away has) ∙ ap (λ (v : WorldValue). block_of v.image c.args.block) c.self.view_is))

@@ -28,4 +28,4 @@ returns-in-Floor g c = called c.args.self.now c.args.self.now c.is_up.ensures re
 
 pub returns-in-Pick : goal.returns-in-Pick
 returns-in-Pick g c = called c.args.self.now c.args.self.now c.is_up.ensures refl c.args.fs.number c.args.call.now Pick c.in-Pick.is
-    (answer.Pick c.pick.result) (ap answer.Pick (c.pick.ensures ∙ ap (λ (v : WorldValue). pick_of v.state) c.self.view_is), refl)
+    (answer.Pick c.pick.result) (ap answer.Pick (c.pick.ensures ∙ (ap pick_of c.state.ensures ∙ ap (λ (v : WorldValue). pick_of v.state) c.self.view_is)), refl)

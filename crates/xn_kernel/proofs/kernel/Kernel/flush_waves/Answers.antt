@@ -1,21 +1,24 @@
-use Rattle.std.proofs.Common.{◌≡◌, ◌∙◌, ap, sym, refl, inl, inr, arith, ◌≤◌}
+use Rattle.std.proofs.Common.{min, ◌≡◌, ◌∙◌, ap, refl, inl, inr, arith, ◌≤◌}
+use Rattle.std.specs.Prelude.{is_some}
+use Rattle.std.specs.List.{list_any}
+use Rattle.xn_model.specs.Lives.{StoreState, alive_and}
 use Rattle.xn_model.specs.Worlds.{all_pending}
 use Rattle.xn_model.proofs.ForCallers.{none_pending}
 use Rattle.xn_state.specs.States.{own_types}
 use Rattle.xn_kernel.specs.Kernels.{KernelValue}
-use Rattle.xn_kernel.proofs.Draining.{idle_from}
+use Rattle.xn_kernel.proofs.Draining.{asked, idle_from}
 use Rattle.xn_kernel.proofs.Flushing.{none_begun, same_flights, less_pending, is_whole, waves_more, still_idle}
 use Rattle.xn_kernel.proofs.WaveWrites.{still_serves}
 use Rattle.xn_kernel.proofs.kernel.Kernel.flush_waves.Goals as goal
 
 pub returns-in_default-clause-err : goal.returns-in_default-clause-err
 returns-in_default-clause-err g c =
-    let idle = idle_from c.args.self.now.state.lives (sym c.is_busy.ensures ∙ c.if-is_busy.false) in
+    let idle = idle_from c.args.self.now.state.lives (asked (λ s. list_any (alive_and (λ l. is_some l.begun)) s.lives) _ _ _ _ c.state.ensures c.is_any_in_flight.ensures c.if-is_any_in_flight.false) in
     inr (idle, inl (refl, c.new-in_default.ensures.items, refl, refl))
 
 pub loop-waves-init : goal.loop-waves-init
 loop-waves-init g c =
-    let idle = idle_from c.args.self.now.state.lives (sym c.is_busy.ensures ∙ c.if-is_busy.false) in
+    let idle = idle_from c.args.self.now.state.lives (asked (λ s. list_any (alive_and (λ l. is_some l.begun)) s.lives) _ _ _ _ c.state.ensures c.is_any_in_flight.ensures c.if-is_any_in_flight.false) in
     record {
       done = refl;
       was_idle = idle;
@@ -28,7 +31,7 @@ loop-waves-init g c =
 pub wave-end-requires-clause-serves : goal.wave-end-requires-clause-serves
 wave-end-requires-clause-serves g c =
     let few = c.loop-waves.invariant.few in
-    still_serves (all_pending c.args.self.now.state.lives) (all_pending c.loop-waves.self.state.lives) _ (omega arith) (omega (arith, few))
+    still_serves (all_pending c.args.self.now.state.lives) (all_pending c.loop-waves.self.state.lives) _ (c.min-room.ensures ∙ ap (λ p. min 4096 p) (c.all_pending.ensures ∙ ap (λ (s : StoreState). all_pending s.lives) c.state-2.ensures)) (omega (arith, few))
 
 pub returns-then-end-eq0-clause-done : goal.returns-then-end-eq0-clause-done
 returns-then-end-eq0-clause-done g c early =
