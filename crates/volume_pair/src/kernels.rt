@@ -46,7 +46,7 @@ impl Disk for Kernel<MemLane> {
     }
 
     fn free(&self) -> u32 {
-        Kernel::free(self)
+        self.state().free()
     }
 }
 
