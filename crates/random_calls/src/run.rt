@@ -286,9 +286,15 @@ impl Run {
             u64::from(kernel.pending(fs)),
             u64::from(record.pending(system)),
         );
-        tally.ask(u64::from(kernel.state().free()), u64::from(record.free_count()));
+        tally.ask(
+            u64::from(kernel.state().free()),
+            u64::from(record.free_count()),
+        );
         let is_tainted = record.tainted(block);
-        tally.ask(u64::from(kernel.state().tainted(block)), u64::from(is_tainted));
+        tally.ask(
+            u64::from(kernel.state().tainted(block)),
+            u64::from(is_tainted),
+        );
         if is_tainted {
             tally.add(Met::Tainted, 1);
         }

@@ -60,5 +60,5 @@ module _ (count : ℕ) (ts : List TemplateValue) (none : format_fault count (len
         | inr (inl past) ↦ absurd (omega (arith, past.0, bytes, long.0, most))
         | inr (inr found) ↦
             absurd (verdict-unsound (types_of_image (blocks_in image)) (built_ins_in language (block_of (blocks_in image))) image fault found.1
-                (whole_image image (omega arith) sound))
+            (whole_image image (omega arith) sound))
       ]

@@ -100,9 +100,12 @@ fn commands<'a>(alloc: Global, place: Place) -> Result<Vec<Command<'a>>, AllocEr
 
 /// How many blocks a disk is to have.
 fn blocks<'a>(alloc: Global) -> Arg<'a> {
-    wanted(alloc, "BLOCKS", "how many blocks of 512 bytes, 32 to 1048576").value_parser(value_parser!(
-        u32
-    ).range(32..=1048576))
+    wanted(
+        alloc,
+        "BLOCKS",
+        "how many blocks of 512 bytes, 32 to 1048576",
+    )
+    .value_parser(value_parser!(u32).range(32..=1048576))
 }
 
 /// A reader of words that stand behind the program's name.

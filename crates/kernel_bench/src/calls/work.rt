@@ -124,7 +124,9 @@ fn cycles(
     let mut done = 0u32;
     for turn in 0..count {
         let edit = &edits[(turn % 2) as usize];
-        if kernel.propose(fs, block, edit).is_err() || picks && kernel.state().pick() != Some(block) {
+        if kernel.propose(fs, block, edit).is_err()
+            || picks && kernel.state().pick() != Some(block)
+        {
             continue;
         }
         if write(kernel, block) {
