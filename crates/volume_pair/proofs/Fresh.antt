@@ -75,7 +75,7 @@ kernel_kept {L} count ts none all image bytes library lanes kernel is =
     let over : KernelValue L → World = λ k. record { language = language; image = blocks_in image; settled = blocks_in image; given = none_given (blocks_in image); state = k.state; down = false } in
     let size = no_fault count (length ts) none in
     let e = fresh_world count ts none all image bytes (over kernel) (ap over is) in
-    fresh_kept count ts size.0 size.1 all library (over kernel) e (subst Holds (sym e) (formatted_holds count ts size.0 size.1 all))
+    fresh_kept count ts size.0.0 size.1 all library (over kernel) e (subst Holds (sym e) (formatted_holds count ts size.0.0 size.1 all))
 
 -- a disk without templates has none of the library's types, and no volume
 module _ (count : ℕ) (size : IsDiskSize count) (world : WorldValue) (is : world_with world ≡ mounted_disk language (formatted count [])) (holds : Holds (world_with world)) where

@@ -7,7 +7,7 @@ use Rattle.volume_pair.proofs.files.running.Files+Running.bare.Goals as goal
 pub with_library-requires : goal.with_library-requires
 with_library-requires g c =
     let size = no_fault c.args.blocks 0 c.in-Ok.ensures.0 in
-    bare_remounted c.args.blocks size.0 c.in-Ok-into_running.running (ap world_with c.in-Ok-into_running.ensures.ok.0 ∙ c.in-Ok.ensures.1) c.rules.ensures
+    bare_remounted c.args.blocks size.0.0 c.in-Ok-into_running.running (ap world_with c.in-Ok-into_running.ensures.ok.0 ∙ c.in-Ok.ensures.1) c.rules.ensures
 
 pub new-requires-clause-kept : goal.new-requires-clause-kept
 new-requires-clause-kept g c fs few =
@@ -15,6 +15,6 @@ new-requires-clause-kept g c fs few =
     record {
       library = c.in-Some.ensures.has.library;
       few = few;
-      keeps = c.in-Some.ensures.keeps fs few (bare_keeps c.args.blocks size.0 c.in-Ok-into_running.running (ap world_with c.in-Ok-into_running.ensures.ok.0 ∙ c.in-Ok.ensures.1) c.rules.ensures fs few);
+      keeps = c.in-Some.ensures.keeps fs few (bare_keeps c.args.blocks size.0.0 c.in-Ok-into_running.running (ap world_with c.in-Ok-into_running.ensures.ok.0 ∙ c.in-Ok.ensures.1) c.rules.ensures fs few);
       mine = tt;
     }

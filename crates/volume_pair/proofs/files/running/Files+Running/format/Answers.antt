@@ -17,7 +17,7 @@ new-requires-clause-has g c =
     let size = no_fault blocks (length ts) (subst (λ l. format_fault blocks (length l) ≡ None) same c.in-Ok.ensures.0) in
     let is = ap world_with c.in-Ok-into_running.ensures.ok.0 ∙ (c.in-Ok.ensures.1 ∙ ap (λ l. mounted_disk language (formatted blocks l)) same) in
     let all = subst (All IsTemplate) (c.deref.ensures.value ∙ c.in_ok-templates.ensures) c.are_templates.ensures in
-    (fresh_kept blocks ts size.0 size.1 all (c.templates_are_the_librarys.ensures.formatted []) (world_with c.in-Ok-into_running.running) is c.rules.ensures).0
+    (fresh_kept blocks ts size.0.0 size.1 all (c.templates_are_the_librarys.ensures.formatted []) (world_with c.in-Ok-into_running.running) is c.rules.ensures).0
 
 pub new-requires-clause-kept : goal.new-requires-clause-kept
 new-requires-clause-kept g c =
@@ -27,4 +27,4 @@ new-requires-clause-kept g c =
     let size = no_fault blocks (length ts) (subst (λ l. format_fault blocks (length l) ≡ None) same c.in-Ok.ensures.0) in
     let is = ap world_with c.in-Ok-into_running.ensures.ok.0 ∙ (c.in-Ok.ensures.1 ∙ ap (λ l. mounted_disk language (formatted blocks l)) same) in
     let all = subst (All IsTemplate) (c.deref.ensures.value ∙ c.in_ok-templates.ensures) c.are_templates.ensures in
-    (fresh_kept blocks ts size.0 size.1 all (c.templates_are_the_librarys.ensures.formatted []) (world_with c.in-Ok-into_running.running) is c.rules.ensures).1
+    (fresh_kept blocks ts size.0.0 size.1 all (c.templates_are_the_librarys.ensures.formatted []) (world_with c.in-Ok-into_running.running) is c.rules.ensures).1
