@@ -1,8 +1,10 @@
 // A script is run.
 
 ghost use Rattle.std.specs.Prelude.{◌≡◌, ◌≤◌, length, IfOk, IfErr, IsOk, OnOk};
-ghost use Rattle.xn_model.specs.Images.{IsDiskSize, joined};
+ghost use Rattle.xn_model.specs.Images.{joined};
 ghost use Rattle.script.specs.Scripts.{SpellEvents};
+ghost use Rattle.templates.specs.Formats.{most_formatted};
+ghost use Rattle.world.specs.Opened.{IsHeldWhole};
 ghost use Rattle.world.specs.Worlds.{world_with};
 ghost use Rattle.xnsim_line.specs.Done.{IsFaultOnImage, IsRunFault};
 ghost use Rattle.xnsim_line.specs.Runs.{fresh_world, IsPrintedRun, IsRunLine, RunsLines};
@@ -25,7 +27,8 @@ fn fresh_world(
     blocks: u32,
     templates: &[Template],
 ) -> Result<World, AllocError>
-    requires size { IsDiskSize blocks }
+    requires least { 32 ≤ blocks }
+    requires most { blocks ≤ most_formatted }
     requires few { length templates.now ≤ 16 }
     ensures { IfOk result (λ world. world_with world ≡ fresh_world blocks templates.now) }
 {
@@ -120,7 +123,8 @@ pub fn run_script<'a, W: Write>(
     lines: Vec<ScriptLine<'_>>,
     out: &mut W,
 ) -> Result<World, Fault<'a>>
-    requires size { IsDiskSize blocks }
+    requires least { 32 ≤ blocks }
+    requires most { blocks ≤ most_formatted }
     requires few { length templates.now ≤ 16 }
     requires lines { SpellEvents lines.items }
     ensures run { IfOk result (λ world. RunsLines lines.entry.items
