@@ -2,7 +2,7 @@
 use Rattle.std.proofs.Common.{◌≡◌, ℕ, ◌<◌, ◌≤◌, Bool, List, length, take, drop, Option, Some, None, refl, sym, ◌∙◌, ap, arith, subst}
 use Rattle.std.specs.Prelude.{Contains, IsTrue, IfSome, is_some, option_map, slice_set}
 use Rattle.slab.specs.Slab.{Slab, get, Updates}
-use Rattle.xn_model.specs.declared.status.Status.{Status}
+use Rattle.store_types.specs.declared.status.Status.{Status}
 use Rattle.xn_model.specs.Lives as model
 use Rattle.xn_model.specs.Lives.{Life, Lives, life_at, change_at, with_state, settle, settled_at, begun_at, current, root_on_disk}
 use Rattle.xn_model.specs.Calls.{life_pending, life_bytes, patched}

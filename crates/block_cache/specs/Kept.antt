@@ -2,8 +2,8 @@
 use Rattle.std.specs.Prelude.{◌≡◌, ℕ, Contains, ◌^◌, ◌<◌, ◌≤◌, Bool, List, [], ◌∷◌, ◌++◌, length, take, drop, true, false, Option, Some, None, slice_get}
 use Rattle.std.specs.Prelude.{slice_index_or, slice_set, unwrap_or, option_map, IsTrue, ◌||◌, nat_lt}
 use Rattle.slab.specs.Slab.{Slab, get}
-use Rattle.xn_model.specs.declared.status.Status.{Status}
-use Rattle.xn_model.specs.declared.status.Status.TheVariants.{Fresh}
+use Rattle.store_types.specs.declared.status.Status.{Status}
+use Rattle.store_types.specs.declared.status.Status.TheVariants.{Fresh}
 use Rattle.xn_model.specs.Images.{block_of}
 use Rattle.xn_model.specs.Lives.{root_on_disk}
 use Rattle.xn_model.specs.Rules.{IsCount}

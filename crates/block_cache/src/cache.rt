@@ -30,7 +30,7 @@ use edit_list::{EditId, Fs, Undo};
 use slab::Slab;
 use std::alloc::{AllocError, Global};
 use std::marker::Model;
-use xn_model::Status;
+use store_types::{BLOCK_LEN, Status};
 
 /// What each block has been since it was last free, by block number: of each life the newest bytes, and of each pending
 /// entry the bytes that it overwrote. Beside them stands which places of the catalogue on the disk name a template.
@@ -69,7 +69,7 @@ impl Cache {
     pub fn found(
         alloc: Global,
         found: &[Option<FoundLife>],
-        blocks: &[[u8; 512]],
+        blocks: &[[u8; BLOCK_LEN]],
     ) -> Result<Cache, AllocError>
         requires within { length found.now ≤ length blocks.now }
         requires few { length found.now < 2 ^ 32 }
@@ -90,7 +90,7 @@ impl Cache {
         number: EditId,
         fs: Option<Fs>,
         ty: u32,
-        bytes: &[u8; 512],
+        bytes: &[u8; BLOCK_LEN],
     ) -> Result<(), AllocError>
         requires { slice_get self.old block ≡ Some None }
         ensures ok { OnOk result (self.new ≡ slice_set self.old block (Some (new_life number (system_of fs) ty bytes.now))) }
@@ -184,7 +184,7 @@ impl Cache {
     }
 
     /// The bytes of a block in use with only its first pending entries done.
-    pub fn image_of(&self, block: u32, count: u32) -> Option<[u8; 512]>
+    pub fn image_of(&self, block: u32, count: u32) -> Option<[u8; BLOCK_LEN]>
         requires { IfSome (life_at self.now block) (HasImage count) }
         ensures { result ≡ option_map (image_at count) (life_at self.now block) }
     {
@@ -194,7 +194,7 @@ impl Cache {
 
     /// What the first pending entries of a block in use leave.
     #[inline(always)]
-    pub fn image(&self, block: u32, count: u32) -> [u8; 512]
+    pub fn image(&self, block: u32, count: u32) -> [u8; BLOCK_LEN]
         requires alive { IsTrue (is_some (life_at self.now block)) }
         requires has { IfSome (life_at self.now block) (HasImage count) }
         ensures { IfSome (life_at self.now block) (λ l. result ≡ image_at count l) }
@@ -300,7 +300,7 @@ impl Cache {
 }
 
 /// Which places of an image's catalogue name a template: none where block 0 is not found.
-fn named_in(found: &[Option<FoundLife>], blocks: &[[u8; 512]]) -> NamedPlaces
+fn named_in(found: &[Option<FoundLife>], blocks: &[[u8; BLOCK_LEN]]) -> NamedPlaces
     requires { length found.now ≤ length blocks.now }
     ensures { result.places ≡ places_named (durable_bytes (rest_at found.now blocks.now 0)) }
 {

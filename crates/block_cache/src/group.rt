@@ -18,6 +18,7 @@ use crate::totals::Exchange;
 use edit_list::Fs;
 use std::alloc::{AllocError, Global};
 use std::marker::Model;
+use store_types::BLOCK_LEN;
 
 /// How many blocks a group has.
 pub const GROUP_BLOCKS: usize = 64;
@@ -45,7 +46,7 @@ impl Group {
     pub fn found(
         alloc: Global,
         found: &[Option<FoundLife>],
-        blocks: &[[u8; 512]],
+        blocks: &[[u8; BLOCK_LEN]],
         first: usize,
     ) -> Result<Group, AllocError>
         requires within { length found.now ≤ length blocks.now }
@@ -83,7 +84,7 @@ impl Group {
         key: usize,
         fs: Option<Fs>,
         ty: u32,
-        bytes: &[u8; 512],
+        bytes: &[u8; BLOCK_LEN],
     ) -> Result<Exchange, AllocError>
         requires { at < 64 }
         ensures ok { OnOk result (self.new ≡ slice_set self.old at (Some (started_life key (system_of fs) ty bytes.now))) }
@@ -172,7 +173,7 @@ fn free_places(alloc: Global) -> Result<Vec<Place>, AllocError>
 fn found_places(
     alloc: Global,
     found: &[Option<FoundLife>],
-    blocks: &[[u8; 512]],
+    blocks: &[[u8; BLOCK_LEN]],
     first: usize,
 ) -> Result<Vec<Place>, AllocError>
     requires within { length found.now ≤ length blocks.now }
@@ -190,7 +191,7 @@ fn found_places(
 fn found_place(
     alloc: Global,
     found: &[Option<FoundLife>],
-    blocks: &[[u8; 512]],
+    blocks: &[[u8; BLOCK_LEN]],
     block: usize,
 ) -> Place
     requires { length found.now ≤ length blocks.now }

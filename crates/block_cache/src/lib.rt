@@ -22,4 +22,4 @@ pub use edit_list::{EditId, Fs, Undo};
 pub use life::{Facts, FoundLife};
 pub use live_block::LiveBlock;
 pub use new_bytes::NewBytes;
-pub use xn_model::Status;
+pub use store_types::Status;

@@ -11,13 +11,13 @@ use crate::new_bytes::NewBytes;
 use edit_list::Fs;
 use std::alloc::{AllocError, Global};
 use std::marker::Model;
-use xn_model::Status;
+use store_types::{BLOCK_LEN, Status};
 
 /// What a block in use holds: its newest bytes, whether a state of it is on the disk, and the keys of its pending entries,
 /// the oldest first. The bytes come first, so that a life that is found in an image has them copied once, and the others lie side by side.
 #[derive(Drop)]
 pub struct Life {
-    current: [u8; 512],
+    current: [u8; BLOCK_LEN],
     fs: Option<Fs>,
     ty: u32,
     status: Status,
@@ -128,7 +128,7 @@ impl Life {
         ensures { result.keys ≡ [] }
     {
         Life {
-            current: [0; 512],
+            current: [0; BLOCK_LEN],
             fs: None,
             ty: 0,
             status: Status::Fresh,
@@ -145,7 +145,7 @@ impl Life {
         key: usize,
         fs: Option<Fs>,
         ty: u32,
-        bytes: &[u8; 512],
+        bytes: &[u8; BLOCK_LEN],
     ) -> Result<(), AllocError>
         ensures ok { OnOk result (self.new ≡ started_life key (system_of fs) ty bytes.now) }
         ensures err { OnErr result (self.new ≡ self.old) }
@@ -163,7 +163,7 @@ impl Life {
     }
 
     /// The life of a block whose one state is on the disk.
-    pub fn found(alloc: Global, found: FoundLife, bytes: &[u8; 512]) -> Life
+    pub fn found(alloc: Global, found: FoundLife, bytes: &[u8; BLOCK_LEN]) -> Life
         ensures { result ≡ resting found bytes.now }
     {
         Life {
@@ -220,7 +220,7 @@ impl Life {
     }
 
     /// The newest bytes.
-    pub fn current(&self) -> &[u8; 512]
+    pub fn current(&self) -> &[u8; BLOCK_LEN]
         ensures { result.now ≡ self.now.current }
     {
         &self.current

@@ -17,6 +17,7 @@ use crate::rollback;
 use edit_list::Fs;
 use slab::Slab;
 use std::marker::Model;
+use store_types::BLOCK_LEN;
 
 /// The life of a block in use, with its pending entries: who has found it asks it as often as is wanted, with no further look-up.
 #[derive(Drop)]
@@ -64,7 +65,7 @@ impl<'a> LiveBlock<'a> {
     }
 
     /// Its newest bytes.
-    pub fn current(&self) -> &'a [u8; 512]
+    pub fn current(&self) -> &'a [u8; BLOCK_LEN]
         ensures { result.now ≡ current self.now }
     {
         self.life.current()
@@ -79,7 +80,7 @@ impl<'a> LiveBlock<'a> {
     }
 
     /// Whether it has these bytes with only its first pending entries done.
-    pub fn has_image(&self, count: u32, bytes: &[u8; 512]) -> bool
+    pub fn has_image(&self, count: u32, bytes: &[u8; BLOCK_LEN]) -> bool
         requires { HasImage count self.now }
         ensures { result ≡ bytes_eq bytes.now (image_at count self.now) }
     {

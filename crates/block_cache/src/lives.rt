@@ -17,6 +17,7 @@ use crate::totals::Totals;
 use edit_list::Fs;
 use std::alloc::{AllocError, Global};
 use std::marker::Model;
+use store_types::BLOCK_LEN;
 
 /// The lives of all blocks, by block number. They are kept by groups of 64 blocks: a group without a block in use takes no memory beside its
 /// handle. What is counted of all lives is kept beside them.
@@ -56,7 +57,7 @@ impl Lives {
     pub fn found(
         alloc: Global,
         found: &[Option<FoundLife>],
-        blocks: &[[u8; 512]],
+        blocks: &[[u8; BLOCK_LEN]],
     ) -> Result<Lives, AllocError>
         requires within { length found.now ≤ length blocks.now }
         requires few { length found.now < 2 ^ 32 }
@@ -114,7 +115,7 @@ impl Lives {
         key: usize,
         fs: Option<Fs>,
         ty: u32,
-        bytes: &[u8; 512],
+        bytes: &[u8; BLOCK_LEN],
     ) -> Result<(), AllocError>
         requires within { block < length self.old }
         requires few { sum_by pending_count self.old + 1 < 2 ^ 64 }
@@ -180,7 +181,7 @@ impl Lives {
 fn found_groups(
     alloc: Global,
     found: &[Option<FoundLife>],
-    blocks: &[[u8; 512]],
+    blocks: &[[u8; BLOCK_LEN]],
 ) -> Result<Vec<Group>, AllocError>
     requires within { length found.now ≤ length blocks.now }
     requires few { length found.now < 2 ^ 32 }

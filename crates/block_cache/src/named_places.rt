@@ -4,6 +4,8 @@ ghost use Rattle.std.specs.Prelude.{◌≡◌, ◌<◌, ◌==◌, [], not, if◌
 ghost use Rattle.xn_model.specs.Root.{pointer};
 ghost use Rattle.block_cache.specs.Named.{names_type, places_named};
 
+use store_types::BLOCK_LEN;
+
 /// How many types are built in, of which no place names a template.
 const BUILT_IN_TYPES: u32 = 3;
 
@@ -30,7 +32,7 @@ impl NamedPlaces {
     }
 
     /// Those of the catalogue in block 0's bytes.
-    pub fn of(root: &[u8; 512]) -> NamedPlaces
+    pub fn of(root: &[u8; BLOCK_LEN]) -> NamedPlaces
         ensures { result.places ≡ places_named root.now }
     {
         let mut places = [false; 16];
@@ -63,7 +65,7 @@ impl NamedPlaces {
 }
 
 /// Whether a place of the catalogue in block 0's bytes holds the number of a block.
-fn names_template(root: &[u8; 512], place: usize) -> bool
+fn names_template(root: &[u8; BLOCK_LEN], place: usize) -> bool
     requires { place < 16 }
     ensures { result ≡ not (pointer root.now place == 0) }
 {

@@ -14,6 +14,7 @@ use crate::totals::{Exchange, Totals};
 use edit_list::Fs;
 use std::alloc::{AllocError, Global};
 use std::marker::Model;
+use store_types::BLOCK_LEN;
 
 /// The place of a block: its life, or room for the next one. Lives start and end where they stand, so that their bytes are
 /// copied once and never moved. What changes a life says what was counted of it and what is counted now.
@@ -44,7 +45,7 @@ impl Place {
     }
 
     /// That of a block whose one state is on the disk.
-    pub fn found(alloc: Global, found: FoundLife, bytes: &[u8; 512]) -> Place
+    pub fn found(alloc: Global, found: FoundLife, bytes: &[u8; BLOCK_LEN]) -> Place
         ensures { result ≡ Some (resting found bytes.now) }
     {
         Place {
@@ -74,7 +75,7 @@ impl Place {
         key: usize,
         fs: Option<Fs>,
         ty: u32,
-        bytes: &[u8; 512],
+        bytes: &[u8; BLOCK_LEN],
     ) -> Result<Exchange, AllocError>
         ensures ok { OnOk result (self.new ≡ Some (started_life key (system_of fs) ty bytes.now)) }
         ensures err { OnErr result (self.new ≡ self.old) }

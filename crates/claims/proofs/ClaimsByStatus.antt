@@ -4,8 +4,8 @@ use Rattle.std.specs.Prelude.{◌&&◌, ◌==◌, Contains}
 use Rattle.std.specs.List.{list_all}
 use Rattle.std.proofs.lemmas.Bool.{and_parts, and_from, eq-eqb, eqb-true, false≢true}
 use Rattle.std.proofs.lemmas.List.Folds.{list_all-append}
-use Rattle.xn_model.specs.declared.status.Status.{Status}
-use Rattle.xn_model.specs.declared.status.Status.TheVariants.{Owned}
+use Rattle.store_types.specs.declared.status.Status.{Status}
+use Rattle.store_types.specs.declared.status.Status.TheVariants.{Owned}
 use Rattle.xn_model.specs.Types.{Types, inside, without, claims, named_once, within_size}
 use Rattle.xn_model.specs.Lists.{has_pair, distinct, blocks_of}
 use Rattle.xn_model.specs.Lives.{BlockState, Life, StoreState, life_at, current, bytes_of, is_owned_by, is_fresh, is_for}

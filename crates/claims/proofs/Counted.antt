@@ -7,8 +7,8 @@ use Rattle.std.proofs.lemmas.List.{get_or_past, get_or_read, get_or-replicate, g
 use Rattle.std.proofs.lemmas.List.FromFn.{get_or-map-range_with_len, length-map-range_with_len}
 use Rattle.std.proofs.lemmas.List.Sums.{count_by-le-length, sum_by_more}
 use Rattle.std.specs.List.{range_with_len}
-use Rattle.xn_model.specs.declared.status.Status.{Status}
-use Rattle.xn_model.specs.declared.status.Status.TheVariants.{Fresh, Owned, Dropped}
+use Rattle.store_types.specs.declared.status.Status.{Status}
+use Rattle.store_types.specs.declared.status.Status.TheVariants.{Fresh, Owned, Dropped}
 use Rattle.xn_model.specs.Lives.{BlockState, Life, Lives, life_at, is_owned_by, settle, settled_at, begun_at, accepted_at, freed, owner_of}
 use Rattle.xn_model.specs.Calls.{new_life}
 use Rattle.claims.specs.Owners.{owned_count}

@@ -5,7 +5,7 @@ use Rattle.std.specs.List.{last_or}
 use Rattle.std.proofs.lemmas.Bool.{cases_eq, cases_lt}
 use Rattle.std.proofs.lemmas.Option.{none-some, same_Some}
 use Rattle.std.proofs.lemmas.List.{get_or_past, get_or-set_other, get_or-set_same, length-replicate, length-set}
-use Rattle.xn_model.specs.declared.status.Status.TheVariants.{Owned, Dropped}
+use Rattle.store_types.specs.declared.status.Status.TheVariants.{Owned, Dropped}
 use Rattle.xn_model.specs.Types.{Types}
 use Rattle.xn_model.specs.Lives.{BlockState, Life, Lives, bytes_of, life_at, change_at, with_state, with_status, settle, settled_at, begun_at, owned_after, dropped_after, durable_after, accepted_at, freed}
 use Rattle.xn_model.specs.Calls.{new_life}

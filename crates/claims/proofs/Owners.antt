@@ -7,8 +7,8 @@ use Rattle.std.proofs.lemmas.Bool.{and_parts, cases_eq, false≢true, not-true}
 use Rattle.std.proofs.lemmas.Option.{unwrap_or-slice_get, slice_get_within}
 use Rattle.std.proofs.lemmas.List.{length-set}
 use Rattle.std.proofs.lemmas.List.Sums.{sum-map, sum_by-set}
-use Rattle.xn_model.specs.declared.status.Status.{Status}
-use Rattle.xn_model.specs.declared.status.Status.TheVariants.{Owned, Dropped}
+use Rattle.store_types.specs.declared.status.Status.{Status}
+use Rattle.store_types.specs.declared.status.Status.TheVariants.{Owned, Dropped}
 use Rattle.xn_model.specs.Lists.{blocks_of, distinct, has_number}
 use Rattle.xn_model.specs.Lives.{BlockState, Life, Lives, life_at, alive_and, change_at, with_state, with_status, is_fresh, is_owned_by, owned_after, dropped_after, accepted_at, freed}
 use Rattle.xn_model.proofs.ForCallers.{alive_from, fresh_from, owned_from, Contains-head, Contains-tail, has_number_from, change_same, place_from, set_other}

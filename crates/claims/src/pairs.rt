@@ -7,6 +7,7 @@ ghost use Rattle.templates.specs.Decided.{DecidesOwned};
 ghost use Rattle.templates.specs.Tables.{table_types};
 
 use arrayvec::ArrayVec;
+use store_types::BLOCK_LEN;
 use templates::Table;
 use udf_run::{Pair, ReadSet};
 
@@ -30,7 +31,7 @@ pub(crate) fn is_inside(pairs: &[(u32, u32)], others: &[(u32, u32)]) -> bool
 pub fn owned_pairs(
     table: &Table,
     ty: u32,
-    bytes: &[u8; 512],
+    bytes: &[u8; BLOCK_LEN],
 ) -> (ArrayVec<(u32, u32), 128>, ReadSet)
     requires { IsTrue ((table_types table.now).installed ty) }
     ensures pairs { result.0.items ≡ (table_types table.now).owned ty bytes.now }

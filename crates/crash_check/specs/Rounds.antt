@@ -6,7 +6,7 @@ use Rattle.xn_model.specs.Types.{Types}
 use Rattle.xn_model.specs.Images.{block_of}
 use Rattle.image_model.specs.Walk.{Named, walk}
 use Rattle.image_model.specs.Valid.{Valid}
-use Rattle.image_model.specs.declared.fault.ImageFault.{ImageFault}
+use Rattle.store_types.specs.declared.image_fault.ImageFault.{ImageFault}
 
 abbrev pub walk_from : Types → List (List ℕ) → ℕ → List Named → Result (List Named) ImageFault
 walk_from T blocks visited named = walk T (length blocks) (block_of blocks) (length blocks - visited) visited named

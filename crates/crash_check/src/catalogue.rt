@@ -10,12 +10,12 @@ ghost use Rattle.templates.specs.Language.{types_of_image};
 ghost use Rattle.crash_check.specs.Answers.{table_upto};
 
 use crate::blocks::block;
-use image_model::ImageFault;
 use std::alloc::Global;
+use store_types::{BLOCK_LEN, ImageFault};
 use templates::{CATALOGUE_PLACES, Table, Template, TemplateFault, pointer, read_block};
 
 /// The table of the templates that the catalogue names, or the first fault of one of its entries.
-pub fn read_table(alloc: Global, blocks: &[[u8; 512]]) -> Result<Table, ImageFault>
+pub fn read_table(alloc: Global, blocks: &[[u8; BLOCK_LEN]]) -> Result<Table, ImageFault>
     requires { 0 < length blocks.now }
     ensures { MatchResult result
         (λ table. (table ≡ table_of_image (block_of blocks.now)) ×
@@ -32,7 +32,7 @@ pub fn read_table(alloc: Global, blocks: &[[u8; 512]]) -> Result<Table, ImageFau
 /// Puts the templates that the first `count` entries name into an empty table.
 fn read_entries(
     alloc: Global,
-    blocks: &[[u8; 512]],
+    blocks: &[[u8; BLOCK_LEN]],
     table: &mut Table,
     count: usize,
 ) -> Result<(), ImageFault>
@@ -61,7 +61,7 @@ fn read_entries(
 /// The template that an entry names, and `None` where it is empty.
 fn read_entry(
     alloc: Global,
-    blocks: &[[u8; 512]],
+    blocks: &[[u8; BLOCK_LEN]],
     place: usize,
 ) -> Result<Option<Template>, ImageFault>
     requires blocks { 0 < length blocks.now }

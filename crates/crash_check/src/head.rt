@@ -5,9 +5,8 @@ ghost use Rattle.xn_model.specs.Images.{most_blocks};
 ghost use Rattle.image_model.specs.Walk.{count_of, head_fault};
 
 use crate::blocks::block;
-use disk::{BLOCK_LEN, MAX_BLOCKS};
-use image_model::ImageFault;
-use templates::{MIN_BLOCKS, count_of, mark_is_right};
+use store_types::{BLOCK_LEN, ImageFault, MAX_BLOCKS, MIN_BLOCKS};
+use templates::{count_of, mark_is_right};
 
 /// What is wrong with the length, the mark or the count.
 #[tactic(auto, unfolding(image_model::specs::Walk::head_fault, image_model::specs::Walk::has_length))]
@@ -23,7 +22,7 @@ pub fn head_fault(image: &[u8]) -> Option<ImageFault>
     if length % BLOCK_LEN != 0 || length < least || greatest < length {
         return Some(ImageFault::BadLength);
     }
-    let (blocks, _) = image.as_chunks::<512>();
+    let (blocks, _) = image.as_chunks::<BLOCK_LEN>();
     let root = block(blocks, 0);
     if !mark_is_right(root) {
         return Some(ImageFault::BadMark);

@@ -4,6 +4,7 @@ ghost use Rattle.std.specs.Prelude.{◌≡◌, ◌≤◌, ℕ, List, false, get_
 ghost use Rattle.templates.specs.Tables.{table_types};
 ghost use Rattle.crash_check.specs.Known.{AreKnown};
 
+use store_types::BLOCK_LEN;
 use templates::Table;
 use udf_run::constant_size;
 
@@ -44,7 +45,7 @@ impl KnownTypes {
     }
 
     /// From which byte on a block of an installed type is zero, at most 512, as the table says.
-    pub fn size(&self, table: &Table, ty: u32, block: &[u8; 512]) -> u16
+    pub fn size(&self, table: &Table, ty: u32, block: &[u8; BLOCK_LEN]) -> u16
         requires known { AreKnown (table_types table.now) self.now }
         requires installed { IsTrue ((table_types table.now).installed ty) }
         ensures value { result ≡ (table_types table.now).size ty block.now }

@@ -4,9 +4,9 @@ ghost use Rattle.std.specs.Prelude.{◌≡◌, ◌^◌, ◌<◌, ◌++◌, ◌�
 ghost use Rattle.image_model.specs.Walk.{has_block};
 ghost use Rattle.crash_check.specs.Marks.{NamedList};
 
-use image_model::Place;
 use std::alloc::{AllocError, Global};
 use std::marker::Model;
+use store_types::Place;
 
 /// The blocks that are named, in the order of their names, each with its place. Beside them stands a mark for each block of the
 /// disk, which says whether it is 0 or named; one behind the last mark is not.

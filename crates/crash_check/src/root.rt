@@ -10,15 +10,15 @@ ghost use Rattle.crash_check.specs.Answers.{AnswersAs};
 use crate::blocks::{block, is_blank_from};
 use crate::named::NamedBlocks;
 use crate::names::add;
-use image_model::{ImageFault, Place};
 use std::alloc::Global;
+use store_types::{BLOCK_LEN, ImageFault, Place};
 use templates::{CATALOGUE_PLACES, ROOT_SLOTS, Table, pointer, root_slot};
 
 /// The blocks that block 0 names, in order, each with its place.
 pub fn visit_root(
     alloc: Global,
     table: &Table,
-    blocks: &[[u8; 512]],
+    blocks: &[[u8; BLOCK_LEN]],
 ) -> Result<NamedBlocks, ImageFault>
     requires some { 0 < length blocks.now }
     ensures { AnswersAs result (λ named. named.entries) (visit_root (table_types table.now) (length blocks.now) (block_of blocks.now)) }
@@ -41,7 +41,7 @@ fn add_templates(
     named: &mut NamedBlocks,
     table: &Table,
     count: usize,
-    root: &[u8; 512],
+    root: &[u8; BLOCK_LEN],
     places: usize,
 ) -> Result<(), ImageFault>
     requires places { places ≤ 16 }
@@ -59,7 +59,7 @@ fn add_roots(
     named: &mut NamedBlocks,
     table: &Table,
     count: usize,
-    root: &[u8; 512],
+    root: &[u8; BLOCK_LEN],
     slots: usize,
 ) -> Result<(), ImageFault>
     requires slots { slots ≤ 32 }

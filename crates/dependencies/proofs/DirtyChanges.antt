@@ -4,7 +4,7 @@ use Rattle.std.specs.Prelude.{Contains, is_some, nat_lt, option_map, slice_set, 
 use Rattle.std.proofs.Math.Seq.{map-set_same}
 use Rattle.std.proofs.lemmas.Bool.{false≢true, le-ltb, lt-ltb}
 use Rattle.std.proofs.lemmas.List.{map-set}
-use Rattle.xn_model.specs.declared.status.Status.TheVariants.{Owned, Dropped}
+use Rattle.store_types.specs.declared.status.Status.TheVariants.{Owned, Dropped}
 use Rattle.xn_model.specs.Lives.{BlockState, Life, Lives, life_at, change_at, with_state, with_status, settle, settled_at, begun_at, owned_after, dropped_after, accepted_at, freed}
 use Rattle.xn_model.specs.Calls.{life_pending, new_life}
 use Rattle.xn_model.proofs.ForCallers.{Contains-head, Contains-tail}

@@ -6,7 +6,7 @@ use Rattle.std.proofs.lemmas.List.{length-map, length-set}
 use Rattle.std.proofs.lemmas.Option.{slice_get_within}
 use Rattle.xn_model.specs.Root.{has_type, pointer}
 use Rattle.xn_model.specs.Lives.{BlockState, Life, Lives, accepted_at, begun_at, change_at, dropped_after, durable_bytes, freed, has_entry, life_at, no_states, owned_after, settle, settled_at, with_state, with_status}
-use Rattle.xn_model.specs.declared.status.Status.TheVariants.{Dropped, Owned}
+use Rattle.store_types.specs.declared.status.Status.TheVariants.{Dropped, Owned}
 use Rattle.xn_model.specs.Calls.{life_pending, new_life}
 use Rattle.xn_model.proofs.ForCallers.{Contains-head, Contains-tail, accepted, accepted_is, change_same, each_at, place_from, set_other}
 use Rattle.block_cache.specs.Claims.{ClaimValue}

@@ -3,9 +3,9 @@
 ghost use Rattle.std.specs.Prelude.{◌≡◌, ◌≤◌, ◌↔◌, length, IsTrue, vec_capacity};
 ghost use Rattle.disk.specs.Blocks.{second_of};
 
-use crate::lane::BLOCK_LEN;
 use std::alloc::{AllocError, Allocator};
 use std::marker::Model;
+use store_types::BLOCK_LEN;
 
 /// Two lots of bytes of a block, which stay where they are: only which of them a read gives may change.
 ///

@@ -1,11 +1,7 @@
 ghost use Rattle.std.specs.Prelude.{◌≡◌, ℕ, List, ◌⊎◌, OnOk, OnErr, IfOk, Result, false, bytes_eq};
 ghost use Rattle.disk.specs.Lanes.{CountsOne, LeavesNoMore, LeavesOnly, LeavesAlso, done_or};
 
-/// How many bytes a block has.
-pub const BLOCK_LEN: usize = 512;
-
-/// The greatest number of blocks of a disk.
-pub const MAX_BLOCKS: u32 = 1_048_576;
+use store_types::BLOCK_LEN;
 
 /// The device failed to do what it was asked.
 #[derive(Clone, Copy, Debug, PartialEq, Eq)]

@@ -8,7 +8,7 @@ mod lanes;
 mod mem;
 mod plan;
 
-pub use lane::{BLOCK_LEN, DeviceFault, Lane, MAX_BLOCKS};
+pub use lane::{DeviceFault, Lane};
 pub use lanes::Lanes;
 pub use mem::{MemDisk, MemLane, fresh_lanes, lanes_from};
 pub use plan::PlanLane;

@@ -7,10 +7,11 @@ ghost use Rattle.disk.specs.Mem.{synced, crashed_lane, memory_read, memory_write
 ghost use Rattle.disk.specs.Mem.{memory_sync, memory_leaves, IsGivenAfterFault};
 
 use crate::blocks::Blocks;
-use crate::lane::{BLOCK_LEN, DeviceFault, Lane};
+use crate::lane::{DeviceFault, Lane};
 use crate::lanes::Lanes;
 use std::alloc::{AllocError, Allocator, Global};
 use std::marker::Model;
+use store_types::BLOCK_LEN;
 
 /// Whether a block holds a write that is not settled, and what its two lots of bytes are then.
 #[derive(Clone, Copy)]

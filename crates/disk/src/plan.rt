@@ -4,9 +4,10 @@ ghost use Rattle.std.specs.Prelude.{◌≡◌, ℕ, Option};
 ghost use Rattle.disk.specs.Mem.{memory_leaves};
 ghost use Rattle.disk.specs.Plans.{later_read, later_write, planned_read, planned_sync, planned_write, told_read, told_write};
 
-use crate::lane::{BLOCK_LEN, DeviceFault, Lane};
+use crate::lane::{DeviceFault, Lane};
 use crate::mem::MemLane;
 use std::marker::Model;
+use store_types::BLOCK_LEN;
 
 /// A block in memory that fails at one read and at one write, which are named when it is made. Each fails once.
 #[derive(Drop)]

@@ -10,6 +10,7 @@ use crate::patches;
 use crate::undo::Undo;
 use std::alloc::{AllocError, Global};
 use std::marker::Model;
+use store_types::BLOCK_LEN;
 
 /// A change of a block: patches, which apply in order and may overlap; the blocks that it adds to those that the block
 /// owns, each with its type; the blocks that it drops from them; and the entry that has to be durable before it.
@@ -76,7 +77,7 @@ impl Edit {
     }
 
     /// Writes its patches into a block, in their order.
-    pub fn apply(&self, bytes: &mut [u8; 512])
+    pub fn apply(&self, bytes: &mut [u8; BLOCK_LEN])
         requires { IsTrue (within_limits self.now) }
         ensures { bytes.new ≡ patched bytes.old self.now.patches }
     {
@@ -85,7 +86,7 @@ impl Edit {
 
     /// What undoes the edit of a block that has these bytes before it: for each of its patches, in their order, a piece at the
     /// same place, with the bytes that the block has there.
-    pub fn undo_of(&self, alloc: Global, bytes: &[u8; 512]) -> Result<Undo, AllocError>
+    pub fn undo_of(&self, alloc: Global, bytes: &[u8; BLOCK_LEN]) -> Result<Undo, AllocError>
         requires { IsTrue (within_limits self.now) }
         ensures pieces { IfOk result (λ undo. undo ≡ undo_of bytes.now self.now.patches) }
         ensures undone { IfOk result (λ undo. patched (patched bytes.now self.now.patches) undo ≡ bytes.now) }

@@ -6,6 +6,7 @@ ghost use Rattle.xn_model.specs.Calls.{is_patch};
 ghost use Rattle.edit_list.specs.Undo.{undo_at};
 
 use std::marker::Model;
+use store_types::BLOCK_LEN;
 
 /// Bytes that a block is to have from an offset on.
 #[derive(Debug)]
@@ -38,7 +39,7 @@ impl Patch {
         ensures { result ≡ is_patch self.now }
     {
         let length = self.bytes.len();
-        0 < length && length <= 512 && usize::from(self.offset) + length <= 512
+        0 < length && length <= BLOCK_LEN && usize::from(self.offset) + length <= BLOCK_LEN
     }
 
     /// Whether it has at most 16 bytes.
@@ -49,7 +50,7 @@ impl Patch {
     }
 
     /// Writes its bytes into a block.
-    pub(crate) fn apply(&self, bytes: &mut [u8; 512])
+    pub(crate) fn apply(&self, bytes: &mut [u8; BLOCK_LEN])
         requires { IsTrue (is_patch self.now) }
         ensures { bytes.new ≡ put bytes.old self.now.offset self.now.bytes }
     {
@@ -58,7 +59,7 @@ impl Patch {
     }
 
     /// The bytes of a block that it writes over.
-    pub(crate) fn overwritten<'a>(&self, bytes: &'a [u8; 512]) -> &'a [u8]
+    pub(crate) fn overwritten<'a>(&self, bytes: &'a [u8; BLOCK_LEN]) -> &'a [u8]
         requires { IsTrue (is_patch self.now) }
         ensures { result.now ≡ (undo_at bytes.now self.now).bytes }
     {

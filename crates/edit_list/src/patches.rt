@@ -9,6 +9,7 @@ ghost use Rattle.edit_list.specs.Undo.{undo_at, undo_of};
 use crate::patch::Patch;
 use crate::undo::Undo;
 use std::alloc::{AllocError, Global};
+use store_types::BLOCK_LEN;
 
 /// Whether each of the patches has a byte, and none past byte 511 of the block.
 pub fn are_patches(patches: &[Patch]) -> bool
@@ -35,7 +36,7 @@ fn are_some_within_limits(patches: &[Patch]) -> bool
     !patches.is_empty()
         && patches.len() <= 8
         && are_patches(patches)
-        && total_length(patches) <= 512
+        && total_length(patches) <= BLOCK_LEN
 }
 
 /// How many bytes the patches have together.
@@ -52,7 +53,7 @@ pub fn total_length(patches: &[Patch]) -> usize
 }
 
 /// Writes the patches into a block, in their order.
-pub fn apply(patches: &[Patch], bytes: &mut [u8; 512])
+pub fn apply(patches: &[Patch], bytes: &mut [u8; BLOCK_LEN])
     requires { IsTrue (list_all is_patch patches.now) }
     ensures { bytes.new ≡ patched bytes.old patches.now }
 {
@@ -63,7 +64,11 @@ pub fn apply(patches: &[Patch], bytes: &mut [u8; 512])
 
 /// What undoes the patches of a block with these bytes: for each of them, in their order, what the block has at its place.
 #[inline(always)]
-pub fn undo_of(alloc: Global, patches: &[Patch], bytes: &[u8; 512]) -> Result<Undo, AllocError>
+pub fn undo_of(
+    alloc: Global,
+    patches: &[Patch],
+    bytes: &[u8; BLOCK_LEN],
+) -> Result<Undo, AllocError>
     requires few { length patches.now ≤ 8 }
     requires are_patches { IsTrue (list_all is_patch patches.now) }
     requires short { sum_by (λ p. length p.bytes) patches.now ≤ 512 }
@@ -77,7 +82,7 @@ pub fn undo_of(alloc: Global, patches: &[Patch], bytes: &[u8; 512]) -> Result<Un
 
 /// What undoes a patch of at most 16 bytes.
 #[inline(always)]
-fn undo_of_short(alloc: Global, patch: &Patch, bytes: &[u8; 512]) -> Undo
+fn undo_of_short(alloc: Global, patch: &Patch, bytes: &[u8; BLOCK_LEN]) -> Undo
     requires is_patch { IsTrue (is_patch patch.now) }
     requires short { length patch.now.bytes ≤ 16 }
     ensures { result ≡ undo_at bytes.now patch.now ∷ [] }
@@ -86,7 +91,11 @@ fn undo_of_short(alloc: Global, patch: &Patch, bytes: &[u8; 512]) -> Undo
 }
 
 /// What undoes any patches.
-fn undo_of_any(alloc: Global, patches: &[Patch], bytes: &[u8; 512]) -> Result<Undo, AllocError>
+fn undo_of_any(
+    alloc: Global,
+    patches: &[Patch],
+    bytes: &[u8; BLOCK_LEN],
+) -> Result<Undo, AllocError>
     requires few { length patches.now ≤ 8 }
     requires are_patches { IsTrue (list_all is_patch patches.now) }
     requires short { sum_by (λ p. length p.bytes) patches.now ≤ 512 }

@@ -7,6 +7,7 @@ use arrayvec::ArrayVec;
 use smallvec::SmallVec;
 use std::alloc::{AllocError, Global};
 use std::marker::Model;
+use store_types::BLOCK_LEN;
 
 /// A piece of a block: where it starts, and how many bytes it has.
 #[derive(Clone, Copy, Default)]
@@ -71,7 +72,7 @@ impl PieceList {
     }
 
     /// Puts the bytes back over a block's.
-    pub fn put_back(&self, block: &mut [u8; 512])
+    pub fn put_back(&self, block: &mut [u8; BLOCK_LEN])
         ensures { block.new ≡ patched block.old self.now }
     {
         let mut rest = self.bytes.as_slice();

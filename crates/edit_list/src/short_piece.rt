@@ -4,6 +4,7 @@ ghost use Rattle.std.specs.Prelude.{◌≡◌, ◌+◌, ◌≤◌, length};
 ghost use Rattle.xn_model.specs.Lists.{put};
 
 use std::marker::Model;
+use store_types::BLOCK_LEN;
 
 /// A piece of a block with at most 16 bytes, which lie in place.
 #[derive(Drop)]
@@ -57,7 +58,7 @@ impl ShortPiece {
     }
 
     /// Puts its bytes back over a block's.
-    pub fn put_back(&self, block: &mut [u8; 512])
+    pub fn put_back(&self, block: &mut [u8; BLOCK_LEN])
         ensures { block.new ≡ put block.old self.now.offset self.now.bytes }
     {
         let start = self.offset() as usize;

@@ -5,6 +5,7 @@ ghost use Rattle.ffs_model.specs.Library.{half_at};
 ghost use Rattle.ffs_format.specs.Entries.{entry_of, is_name, name_in};
 
 use byteorder::{ByteOrder, LittleEndian};
+use store_types::BLOCK_LEN;
 
 /// How many entries a block of a directory has.
 pub const ENTRIES: usize = 16;
@@ -17,7 +18,7 @@ pub const NAME_LEN: usize = 28;
 
 /// The inode that the entry at a place, 0 to 15, of a directory's block names; 0 for none.
 #[tactic(auto, unfolding(ffs_model::specs::Library::half_at))]
-pub fn entry_inode(block: &[u8; 512], place: usize) -> u16
+pub fn entry_inode(block: &[u8; BLOCK_LEN], place: usize) -> u16
     requires { place < 16 }
     ensures { result ≡ half_at block.now (32 * place) }
 {
@@ -27,7 +28,7 @@ pub fn entry_inode(block: &[u8; 512], place: usize) -> u16
 
 /// The name of the entry at a place, 0 to 15, of a directory's block; of a length above 28, which no entry of a library's
 /// directory has, the first 28 bytes.
-pub fn entry_name(block: &[u8; 512], place: usize) -> &[u8]
+pub fn entry_name(block: &[u8; BLOCK_LEN], place: usize) -> &[u8]
     requires { place < 16 }
     ensures { result.now ≡ name_in block.now (32 * place) }
 {

@@ -9,6 +9,10 @@ ghost use Rattle.ffs_format.specs.Fields.{direct_in, fields_of};
 
 use byteorder::{ByteOrder, LittleEndian};
 use std::marker::Model;
+use store_types::BLOCK_LEN;
+
+/// How many inodes a volume has at most.
+pub const MOST_INODES: u16 = 128;
 
 /// How many inodes a block has.
 pub const INODES: usize = 8;
@@ -70,7 +74,7 @@ impl Inode {
     }
 
     /// The inode at a place of an inode block, 0 to 7.
-    pub fn read(block: &[u8; 512], place: usize) -> Inode
+    pub fn read(block: &[u8; BLOCK_LEN], place: usize) -> Inode
         requires { place < 8 }
         ensures { result ≡ inode_at block.now place }
     {

@@ -7,6 +7,7 @@ ghost use Rattle.templates.specs.Reading.{template_of_bytes};
 ghost use Rattle.ffs_format.specs.Library.{file_system_templates};
 
 use std::alloc::{AllocError, Global};
+use store_types::BLOCK_LEN;
 use templates::law::{blocks_are_templates, templates_are_read};
 use templates::{Template, TemplateFault, read_block, write_block};
 
@@ -70,11 +71,11 @@ const POINTERS: [u8; 44] = [
 ];
 
 /// The block that starts with these bytes; the other bytes are zero.
-fn block_of(start: &[u8]) -> [u8; 512]
+fn block_of(start: &[u8]) -> [u8; BLOCK_LEN]
     requires { length start.now ≤ 512 }
     ensures { result ≡ start.now ++ zeros (512 - length start.now) }
 {
-    let mut block = [0u8; 512];
+    let mut block = [0u8; BLOCK_LEN];
     block[..start.len()].copy_from_slice(start);
     block
 }

@@ -5,10 +5,11 @@ ghost use Rattle.std.specs.Int.{w32, to_le_bytes, from_le_bytes};
 ghost use Rattle.ffs_model.specs.Library.{pointer_word};
 
 use byteorder::{ByteOrder, LittleEndian};
+use store_types::BLOCK_LEN;
 
 /// The pointer at a place, 0 to 127, of a block of pointers; 0 for none. A root block has 16.
 #[tactic(auto, unfolding(xn_model::specs::Root::word_at))]
-pub fn pointer(block: &[u8; 512], place: usize) -> u32
+pub fn pointer(block: &[u8; BLOCK_LEN], place: usize) -> u32
     requires { place < 128 }
     ensures { result ≡ pointer_word block.now place }
 {

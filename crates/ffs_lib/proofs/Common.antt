@@ -28,9 +28,9 @@ pub use Rattle.xn_model.specs.Root.{slot, unless_empty}
 unfoldable pub use Rattle.xn_model.specs.Root.{word_at}
 pub use Rattle.xn_model.specs.Rules.{IsConsistent}
 pub use Rattle.xn_model.specs.Types.{Types, fits, within_size}
-pub use Rattle.xn_model.specs.declared.refusal.Refusal.{Refusal}
-pub use Rattle.xn_model.specs.declared.refusal.Refusal.TheVariants.{BadType, ClaimWrong, Exhausted, InFlight, NoMemory, NotEmpty, NotFresh, NotInUse, NotYours}
-pub use Rattle.xn_model.specs.declared.refusal.Refusal.TheVariants.{RootTaken, SizeWrong, TooManyPending}
+pub use Rattle.store_types.specs.declared.refusal.Refusal.{Refusal}
+pub use Rattle.store_types.specs.declared.refusal.Refusal.TheVariants.{BadType, ClaimWrong, Exhausted, InFlight, NoMemory, NotEmpty, NotFresh, NotInUse, NotYours}
+pub use Rattle.store_types.specs.declared.refusal.Refusal.TheVariants.{RootTaken, SizeWrong, TooManyPending}
 -- volumes
 pub use Rattle.ffs_model.specs.Cuts.{Choice, IsChosen, IsCut, IsFullAt, Takes, TakesAny, Under, latest, root, step}
 pub use Rattle.ffs_model.specs.Edits.{EntryMade, HoldsOnly, InodeFreed, InodeKept, InodeMade, LinkAdded, LinkTaken, LinksTaken, OneEntry}

@@ -3,7 +3,7 @@ use Rattle.std.proofs.Common.{◌≡◌, ◌≢◌, ℕ, ◌+◌, ◌-◌, ◌*�
 use Rattle.ffs_lib.proofs.Common.{FfsFault, IsConsistent, IsInodes, IsLibrary, IsRoot, NoEntry, StoreState, Types, Under, and_then, cases_lt, direct_in}
 use Rattle.ffs_lib.proofs.Common.{direct_word, eqb-false, file_block, inode_at, inode_block_in, inode_in, inode_mode, latest, library_layout, pointer_word, root}
 use Rattle.ffs_lib.proofs.Common.{root_in, slot, step, unless_unused, unless_zero, word_at}
-use Rattle.xn_model.specs.declared.status.Status.TheVariants.{Owned}
+use Rattle.store_types.specs.declared.status.Status.TheVariants.{Owned}
 use Rattle.xn_model.proofs.ForCallers.{of_life}
 use Rattle.ffs_model.proofs.ForCallers.{owner_of, blocks_read, data_once, data_owned, direct_once, indirect_once, indirect_owned, latest_reached, library_reads, one_type, under_inodes, word_part}
 use Rattle.ffs_lib.proofs.Edited.{same_root}

@@ -6,7 +6,7 @@ use Rattle.ffs_lib.proofs.Common.{has_pointer, if_bare, if_makeable, init_of, in
 use Rattle.ffs_lib.proofs.Common.{kind_of, latest, library_layout, life_at, make_in, make_root_of, may_add, new_life, own_life, own_place, pointer_word}
 use Rattle.ffs_lib.proofs.Common.{propose_of, put, range_with_len, root, root_in, root_of, root_state, slot, slot_now, to_le_bytes, unless, unless_empty}
 use Rattle.ffs_lib.proofs.Common.{word_at, zero_block}
-use Rattle.xn_model.specs.declared.status.Status.{Status}
+use Rattle.store_types.specs.declared.status.Status.{Status}
 use Rattle.xn_model.proofs.ForCallers.{Contains-cons, Contains-head, Contains-none, Contains-tail, accepted, any_at, any_from, each_at, place_from, range_at, set_same, status_cases}
 use Rattle.ffs_model.proofs.ForCallers.{bytes_apart, one_inode, pointed_none, rooted, started, word_apart, zero_word}
 use Rattle.ffs_lookup.proofs.ForCallers.{in_root_block, kind_known, no_root_block, root_again, zero_is}

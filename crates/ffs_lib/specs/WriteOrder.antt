@@ -21,7 +21,7 @@ use Rattle.std.specs.Prelude.{◌≡◌, ◌≢◌, ◌⊎◌, ℕ, ◌+◌, ◌
 use Rattle.std.specs.Prelude.{Contains, drop, filter, max, min, replicate, Option, None, Some, Result, Ok, Err, MatchResult, if◌then◌else◌}
 use Rattle.std.specs.List.{list_all, range_with_len}
 use Rattle.std.specs.Int.{w32, to_le_bytes}
-use Rattle.xn_model.specs.declared.refusal.Refusal.{Refusal}
+use Rattle.store_types.specs.declared.refusal.Refusal.{Refusal}
 use Rattle.xn_model.specs.Types.{Types}
 use Rattle.xn_model.specs.Lists.{put}
 use Rattle.xn_model.specs.Root.{word_at}

@@ -17,7 +17,7 @@
 use Rattle.std.specs.Prelude.{◌≡◌, ◌≢◌, ◌==◌, ◌&&◌, ◌||◌, Bool, ◌%◌, ℕ, ◌+◌, ◌-◌, ◌<◌, ◌≤◌, nat_lt, List, [], ◌∷◌, ◌++◌, length, drop, filter, map, min, take}
 use Rattle.std.specs.Prelude.{Option, Result, Ok, Err, true, MatchResult, if◌then◌else◌}
 use Rattle.std.specs.List.{range_with_len}
-use Rattle.xn_model.specs.declared.refusal.Refusal.TheVariants.{TooManyPending}
+use Rattle.store_types.specs.declared.refusal.Refusal.TheVariants.{TooManyPending}
 use Rattle.xn_model.specs.Root.{word_at}
 use Rattle.xn_model.specs.Types.{Types}
 use Rattle.xn_model.specs.Lives.{StoreState}

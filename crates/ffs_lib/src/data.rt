@@ -13,7 +13,7 @@ ghost use Rattle.ffs_model.specs.Library.{IsLibrary, pointer_word};
 ghost use Rattle.ffs_format.specs.Fields.{direct_in};
 ghost use Rattle.ffs_lookup.specs.Newest.{byte_in, byte_of, file_block, file_end, file_in, mapped, most_bytes, write_in};
 ghost use Rattle.ffs_lookup.specs.declared.fault.FfsFault.TheVariants.{Kernel};
-ghost use Rattle.xn_model.specs.declared.refusal.Refusal.TheVariants.{TooManyPending};
+ghost use Rattle.store_types.specs.declared.refusal.Refusal.TheVariants.{TooManyPending};
 ghost use Rattle.ffs_lib.specs.Outcomes.{IsRaised};
 ghost use Rattle.ffs_lib.specs.Results.{OnlyChanges};
 ghost use Rattle.ffs_lib.specs.Steps.{Ends, Stage, StopsAtHome, newest_block};
@@ -24,17 +24,14 @@ ghost use Rattle.ffs_lib.specs.Writes.{ActedBy, EndsPart, LastGiven, Parts, Poin
 ghost use Rattle.ffs_lookup.specs.Places.{IsFile};
 
 use crate::put::{attach, put, put_inode};
-use crate::steps::{DATA, POINTER_BLOCK, POINTERS, block_with, is_word};
+use crate::steps::{POINTER_BLOCK, POINTERS, block_with, is_word};
 use edit_list::{EditId, Fs};
 use ffs_format::inodes::{DIRECT_POINTERS, INODE_LEN};
 use ffs_format::{pointer, pointer_bytes};
 use ffs_lookup::{FfsFault, Found, find_file, read_block};
 use std::alloc::Global;
-use xn_model::Refusal;
+use store_types::{BLOCK_LEN, DATA_TYPE, Refusal};
 use xn_state::Store;
-
-/// How many bytes a block has.
-pub const BLOCK_LEN: usize = 512;
 
 /// How many blocks a file has at most.
 const FILE_BLOCKS: usize = DIRECT_POINTERS + POINTERS;
@@ -93,7 +90,7 @@ fn add_direct<S: Store>(
         (StopsAction T fs.number (data_action (newest_block (S.state_of store.old)) fs.number number index at bytes.now after)
         (S.state_of store.old) (S.state_of store.new) number) }
 {
-    let (block, _) = store.init(fs, DATA, &block_with(at, bytes))?;
+    let (block, _) = store.init(fs, DATA_TYPE, &block_with(at, bytes))?;
     let Found {
         block: home,
         place,
@@ -108,7 +105,7 @@ fn add_direct<S: Store>(
         home,
         here,
         inode.bytes(),
-        (block, DATA),
+        (block, DATA_TYPE),
         after,
     )
 }
@@ -133,7 +130,7 @@ fn add_pointers<S: Store>(
         (StopsAction T fs.number (pointers_action (newest_block (S.state_of store.old)) fs.number number index after)
         (S.state_of store.old) (S.state_of store.new) number) }
 {
-    let (block, _) = store.init(fs, POINTER_BLOCK, &[0; 512])?;
+    let (block, _) = store.init(fs, POINTER_BLOCK, &[0; BLOCK_LEN])?;
     let Found {
         block: home,
         place,
@@ -209,7 +206,7 @@ fn add_pointed<S: Store>(
         (StopsAction T fs.number (data_action (newest_block (S.state_of store.old)) fs.number n index at bytes.now after)
         (S.state_of store.old) (S.state_of store.new) n) }
 {
-    let (block, _) = store.init(fs, DATA, &block_with(at, bytes))?;
+    let (block, _) = store.init(fs, DATA_TYPE, &block_with(at, bytes))?;
     let here = 4 * (index - DIRECT_POINTERS);
     is_word(block);
     attach(
@@ -219,7 +216,7 @@ fn add_pointed<S: Store>(
         pointers,
         here,
         &pointer_bytes(block),
-        (block, DATA),
+        (block, DATA_TYPE),
         after,
     )
 }

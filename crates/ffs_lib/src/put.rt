@@ -15,13 +15,14 @@ ghost use Rattle.ffs_lib.specs.Replacing.{KeepsPairs};
 ghost use Rattle.ffs_lib.specs.Steps.{AddsLink, Attached, Dropped, Ends, Enters, IsEntry, IsHome, MayLose, MayName, Proposed, Stage, StopsAtHome};
 ghost use Rattle.ffs_lib.specs.Steps.{StopsEntering, StopsTaking, TakesLink, newest_block};
 
-use crate::steps::{DATA, block_with, blocks_in, blocks_of, count_blocks, forgotten};
+use crate::steps::{block_with, blocks_in, blocks_of, count_blocks, forgotten};
 use edit_list::{Edit, EditId, Fs, Patch};
 use ffs_format::entries::ENTRY_LEN;
 use ffs_format::inodes::INODE_LEN;
 use ffs_format::{Inode, entry_bytes};
 use ffs_lookup::{FfsFault, Found, Room, find_directory, find_inode, find_room, read_block};
 use std::alloc::{AllocError, Global};
+use store_types::{BLOCK_LEN, DATA_TYPE};
 use xn_state::Store;
 
 /// An edit that writes bytes at a place.
@@ -146,7 +147,7 @@ pub fn drop_data<S: Store>(
         fs,
         block,
         0,
-        &[0; 512],
+        &[0; BLOCK_LEN],
         &[],
         &dropped,
         Some(after),
@@ -239,14 +240,14 @@ fn grow<S: Store>(
         Acts T fs.number (Attaches 2 (put zero_block 0 entry.now) home (grown_edit number directory index after))
         (S.state_of store.old) (S.state_of store.new) result × IfOk result (λ e. (S.state_of store.new).next ≡ e + 1) }
 {
-    let (block, _) = store.init(fs, DATA, &block_with(0, entry))?;
+    let (block, _) = store.init(fs, DATA_TYPE, &block_with(0, entry))?;
     let Found {
         block: home,
         place,
         mut inode,
     } = find_directory(store, fs, number)?;
     inode.set_direct(index, block);
-    let size = 512 * count_blocks(&inode);
+    let size = BLOCK_LEN as u32 * count_blocks(&inode);
     inode.set_size(size);
     let at = INODE_LEN * place;
     attach(
@@ -256,7 +257,7 @@ fn grow<S: Store>(
         home,
         at,
         inode.bytes(),
-        (block, DATA),
+        (block, DATA_TYPE),
         Some(after),
     )
 }

@@ -13,12 +13,11 @@ use crate::put::{put, put_inode};
 use crate::steps::{blocks_in, blocks_of};
 use edit_list::{EditId, Fs};
 use ffs_format::Inode;
+use ffs_format::inodes::MOST_INODES;
 use ffs_lookup::{FfsFault, Found, Repair, Repairs, find_inode, look_up_repairs, read_block};
 use std::alloc::Global;
+use store_types::BLOCK_LEN;
 use xn_state::Store;
-
-/// How many inodes there may be.
-const MOST_INODES: u16 = 128;
 
 /// Drops the blocks that a block of pointers points to, if there are any.
 fn empty_pointers<S: Store>(
@@ -38,7 +37,17 @@ fn empty_pointers<S: Store>(
     if dropped.is_empty() {
         return Ok(());
     }
-    let _ = put(alloc, store, fs, block, 0, &[0; 512], &[], &dropped, None)?;
+    let _ = put(
+        alloc,
+        store,
+        fs,
+        block,
+        0,
+        &[0; BLOCK_LEN],
+        &[],
+        &dropped,
+        None,
+    )?;
     Ok(())
 }
 

@@ -24,11 +24,11 @@ use edit_list::{EditId, Fs};
 use ffs_format::{Inode, pointer, pointer_bytes};
 use ffs_lookup::{DIRECTORY, FfsFault, INODE_BLOCKS, ROOT, read_block, root_block};
 use std::alloc::Global;
-use xn_model::Refusal;
+use store_types::{BLOCK_LEN, Refusal};
 use xn_state::Store;
 
 /// Whether a root block points to a block of inodes.
-fn has_pointer(block: &[u8; 512]) -> bool
+fn has_pointer(block: &[u8; BLOCK_LEN]) -> bool
     ensures { result ≡ has_pointer block.now }
 {
     (0..INODE_BLOCKS).any(|index| pointer(block, index) != 0)
@@ -66,7 +66,7 @@ pub fn look_up_root<S: Store>(store: &S, fs: Fs) -> Result<bool, FfsFault>
 }
 
 /// The first inode block, with the top directory, which has no block yet.
-pub fn first_inodes() -> [u8; 512]
+pub fn first_inodes() -> [u8; BLOCK_LEN]
     ensures exact { result ≡ put zero_block 0 (new_inode 2) }
     ensures bare { (p block : ℕ) → Contains (library_layout.direct result p) block → ⊥ }
 {
@@ -89,7 +89,7 @@ fn make_root<S: Store>(store: &mut S, fs: Fs) -> Result<EditId, FfsFault>
     ensures types { S.types_of store.new ≡ S.types_of store.old }
     ensures rooted { (T : Types) → S.types_of store.old ≡ T → Rooted T fs.number (S.state_of store.old) (S.state_of store.new) result }
 {
-    let (block, _) = store.init(fs, ROOT, &[0; 512])?;
+    let (block, _) = store.init(fs, ROOT, &[0; BLOCK_LEN])?;
     let made = set_root(store, fs, block);
     forgotten(store, fs, block, made)
 }

@@ -13,10 +13,8 @@ use ffs_format::inodes::DIRECT_POINTERS;
 use ffs_format::{Inode, pointer};
 use ffs_lookup::FfsFault;
 use std::alloc::{AllocError, Global};
+use store_types::BLOCK_LEN;
 use xn_state::Store;
-
-/// The type of a block of data.
-pub const DATA: u32 = 2;
 
 /// The type of a block of inodes.
 pub const INODE_BLOCK: u32 = 4;
@@ -69,17 +67,17 @@ pub fn count_blocks(inode: &Inode) -> u32
 }
 
 /// A block of zeros with bytes written at a place.
-pub fn block_with(at: usize, bytes: &[u8]) -> [u8; 512]
+pub fn block_with(at: usize, bytes: &[u8]) -> [u8; BLOCK_LEN]
     requires { at + length bytes.now ≤ 512 }
     ensures { result ≡ put zero_block at bytes.now }
 {
-    let mut block = [0; 512];
+    let mut block = [0; BLOCK_LEN];
     block[at..at + bytes.len()].copy_from_slice(bytes);
     block
 }
 
 /// The blocks that a block of pointers points to.
-pub fn blocks_in(alloc: Global, bytes: &[u8; 512]) -> Result<Vec<u32>, AllocError>
+pub fn blocks_in(alloc: Global, bytes: &[u8; BLOCK_LEN]) -> Result<Vec<u32>, AllocError>
     ensures { IfOk result (λ blocks. blocks.items ≡ data_of_pointers bytes.now) }
 {
     let mut blocks = Vec::new(alloc);

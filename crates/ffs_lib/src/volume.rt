@@ -34,16 +34,14 @@ ghost use Rattle.ffs_lib.specs.Stages.{Does, KeptOrEmptied, Makes, OnlyMade, Unn
 ghost use Rattle.ffs_lib.specs.Steps.{Creates, Ends, Leaves, MayLose, NamesAgain, Stage, StopsGrowing, StopsNaming, StopsNew, StopsUnnaming, TakesFree};
 ghost use Rattle.ffs_lib.specs.Steps.{Unnamed, newest_block};
 ghost use Rattle.xn_model.specs.Types.{Types};
-ghost use Rattle.xn_model.specs.declared.refusal.Refusal.{Refusal};
+ghost use Rattle.store_types.specs.declared.refusal.Refusal.{Refusal};
 ghost use Rattle.xn_model.specs.Calls.{was_given};
 ghost use Rattle.ffs_lib.specs.Results.{new_inode, MadeEntry, MovedInodes, OnlyChanges, OthersSame, TookLink};
 
 mod replace;
 mod unname;
 
-use crate::data::{
-    BLOCK_LEN, MOST_BYTES, look_up_end, none_taken, raise_size, read_part, write_parts,
-};
+use crate::data::{MOST_BYTES, look_up_end, none_taken, raise_size, read_part, write_parts};
 use crate::put::{add_link, attach, empty_inode, enter, put, put_inode, take_link};
 use crate::reclaim::reclaim_inodes;
 use crate::setup::{look_up_root, make_first};
@@ -58,6 +56,7 @@ use ffs_lookup::{
     read_block, root_block,
 };
 use std::alloc::{AllocError, Global};
+use store_types::BLOCK_LEN;
 use xn_state::Store;
 
 /// The mode of a file's inode.
@@ -80,7 +79,7 @@ fn has_places(added: &[Option<EditId>; 16])
 /// Adds the names of a directory's block and their inodes, by place.
 fn add_names(
     alloc: Global,
-    block: &[u8; 512],
+    block: &[u8; BLOCK_LEN],
     names: &mut Vec<(Vec<u8>, u16)>,
 ) -> Result<(), AllocError>
     ensures { OnOk result (map (λ name. (name.0.items, name.1)) names.new.items
@@ -379,7 +378,7 @@ impl Volume {
             (edits_of self.new.added) (S.state_of store.new) result }
     {
         has_places(&self.added);
-        let (block, _) = store.init(self.fs, INODE_BLOCK, &[0; 512])?;
+        let (block, _) = store.init(self.fs, INODE_BLOCK, &[0; BLOCK_LEN])?;
         let index = find_pointer(store, self.fs)?;
         let root = root_block(store, self.fs)?;
         is_word(block);

@@ -2,9 +2,9 @@
 use Rattle.std.proofs.Common.{◌≡◌, ℕ, ◌<◌, ◌≢◌, Bool, true, false, List, [], ◌∷◌, Some, refl, sym, ◌∙◌, ap, subst, eq-eqb, Contains, Result, Ok, Err, not}
 use Rattle.std.proofs.lemmas.List.Elements.{Contains-append_right}
 use Rattle.std.proofs.lemmas.Option.{same_Some}
-use Rattle.xn_model.specs.declared.refusal.Refusal.{Refusal}
-use Rattle.xn_model.specs.declared.refusal.Refusal.TheVariants.{NotInUse, NotYours}
-use Rattle.xn_model.specs.declared.status.Status.TheVariants.{Owned}
+use Rattle.store_types.specs.declared.refusal.Refusal.{Refusal}
+use Rattle.store_types.specs.declared.refusal.Refusal.TheVariants.{NotInUse, NotYours}
+use Rattle.store_types.specs.declared.status.Status.TheVariants.{Owned}
 use Rattle.xn_model.specs.Types.{Types}
 use Rattle.xn_model.specs.Root.{slot, owned_by_root, templates_of, roots_of}
 use Rattle.xn_model.specs.Lives.{Life, StoreState, life_at, bytes_of, current, is_dropped, is_for}

@@ -1,6 +1,6 @@
 -- What a store's clauses say.
 use Rattle.std.proofs.Common.{◌≡◌, ℕ, inl, inr, List, Result, Ok, Err, sym, ap, Bor}
-use Rattle.xn_model.specs.declared.refusal.Refusal.{Refusal}
+use Rattle.store_types.specs.declared.refusal.Refusal.{Refusal}
 use Rattle.xn_model.specs.Lives.{StoreState}
 use Rattle.xn_model.specs.Results.{Gives, Lends}
 use Rattle.xn_model.specs.Calls.{read_of}

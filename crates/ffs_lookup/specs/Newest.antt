@@ -17,7 +17,7 @@ use Rattle.std.specs.Prelude.{Option, Some, None, Result, Ok, Err, ◌≡◌, If
 use Rattle.std.specs.Prelude.{if◌then◌else◌}
 use Rattle.std.specs.List.{list_any, range_with_len}
 use Rattle.std.specs.Option.{ok_or}
-use Rattle.xn_model.specs.declared.refusal.Refusal.TheVariants.{RootTaken}
+use Rattle.store_types.specs.declared.refusal.Refusal.TheVariants.{RootTaken}
 use Rattle.xn_model.specs.Root.{slot, word_at}
 use Rattle.xn_model.specs.Lives.{StoreState}
 use Rattle.ffs_model.specs.Shortages.{is_shortage}

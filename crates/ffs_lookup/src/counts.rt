@@ -11,12 +11,10 @@ ghost use Rattle.ffs_lookup.specs.Places.{IsDirectory};
 use crate::fault::FfsFault;
 use crate::places::{Found, find_directory, find_inode, inode_block, read_block};
 use edit_list::Fs;
-use ffs_format::inodes::DIRECT_POINTERS;
+use ffs_format::inodes::{DIRECT_POINTERS, MOST_INODES};
 use ffs_format::{ENTRIES, entry_inode};
+use store_types::BLOCK_LEN;
 use xn_state::Store;
-
-/// How many inodes there may be.
-const MOST_INODES: usize = 128;
 
 /// How many entries name each inode, by its number less 1, cut off at 2^32 - 1; and the least number past 128 that is named.
 #[derive(Drop)]
@@ -53,7 +51,7 @@ impl NameCounts {
             return;
         }
         let at = usize::from(inode - 1);
-        if at < MOST_INODES {
+        if at < MOST_INODES as usize {
             self.each[at] = self.each[at].saturating_add(1);
         } else {
             self.past = Some(least_of(self.past, inode));
@@ -61,7 +59,7 @@ impl NameCounts {
     }
 
     /// Counts the entries of a directory's block.
-    fn add_block(&mut self, block: &[u8; 512])
+    fn add_block(&mut self, block: &[u8; BLOCK_LEN])
         ensures { (numbers : List ℕ) → AreCounts numbers self.old → AreCounts (numbers ++ numbers_in block.now) self.new }
     {
         for place in 0..ENTRIES {
@@ -109,7 +107,7 @@ pub fn count_names<S: Store>(store: &S, fs: Fs) -> Result<NameCounts, FfsFault>
     ensures counts { IsLibrary (S.types_of store.now) → IfOk result (AreCounts (named_numbers (latest (S.state_of store.now).lives) fs.number)) }
 {
     let mut counts = NameCounts::none();
-    for at in 0..MOST_INODES {
+    for at in 0..MOST_INODES as usize {
         let number = at as u16 + 1;
         let Ok(directory) = find_directory(store, fs, number) else {
             continue;
@@ -134,7 +132,7 @@ pub fn find_over_named<S: Store>(store: &S, fs: Fs) -> Result<Option<u16>, FfsFa
     ensures { IsLibrary (S.types_of store.now) → result ≡ Ok (over_named (latest (S.state_of store.now).lives) fs.number) }
 {
     let counts = count_names(store, fs)?;
-    for at in 0..MOST_INODES {
+    for at in 0..MOST_INODES as usize {
         let number = at as u16 + 1;
         if counts.each[at] > u32::from(links_of(store, fs, number)) {
             return Ok(Some(number));

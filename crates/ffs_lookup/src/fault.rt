@@ -1,13 +1,13 @@
 // Why a call of a volume did not do what it was asked.
 
 ghost use Rattle.ffs_lookup.specs.declared.fault.FfsFault.TheVariants.{Kernel};
-ghost use Rattle.xn_model.specs.declared.refusal.Refusal.TheVariants.{NoMemory};
+ghost use Rattle.store_types.specs.declared.refusal.Refusal.TheVariants.{NoMemory};
 ghost use Rattle.std.specs.Prelude.{◌≡◌};
 ghost use Rattle.ffs_lookup.specs.Faults.{fault_number};
 
 use std::alloc::AllocError;
+use store_types::Refusal;
 use thiserror::Error;
-use xn_model::Refusal;
 
 /// Why a call of a volume was refused. After any other than `Kernel` the store is as it was, but for `Volume::make`.
 #[derive(Clone, Copy, Debug, PartialEq, Eq, Error)]

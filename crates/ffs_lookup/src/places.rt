@@ -14,8 +14,9 @@ ghost use Rattle.ffs_lookup.specs.Places.{IsFound, IsDirectory, IsFile, IsFree, 
 
 use crate::fault::FfsFault;
 use edit_list::Fs;
-use ffs_format::inodes::DIRECT_POINTERS;
+use ffs_format::inodes::{DIRECT_POINTERS, MOST_INODES};
 use ffs_format::{ENTRIES, INODES, Inode, entry_inode, entry_name, home, pointer};
+use store_types::BLOCK_LEN;
 use xn_state::Store;
 
 /// The type of a file system's root block.
@@ -26,9 +27,6 @@ pub const INODE_BLOCKS: usize = 16;
 
 /// The mode of a directory's inode.
 pub const DIRECTORY: u16 = 2;
-
-/// How many inodes there may be.
-const MOST_INODES: u16 = 128;
 
 /// An inode in use, and where it stands: its block and its place there.
 #[derive(Drop)]
@@ -64,14 +62,14 @@ pub enum Room {
 }
 
 /// A block of a disk has 512 bytes.
-fn is_whole(block: &[u8; 512])
+fn is_whole(block: &[u8; BLOCK_LEN])
     ensures { length block.now ≡ 512 }
 {
     let _ = block;
 }
 
 /// The newest bytes of a block.
-pub fn read_block<S: Store>(store: &S, fs: Fs, block: u32) -> Result<&[u8; 512], FfsFault>
+pub fn read_block<S: Store>(store: &S, fs: Fs, block: u32) -> Result<&[u8; BLOCK_LEN], FfsFault>
     ensures bytes { IfOk result (λ bytes. latest (S.state_of store.now).lives block ≡ bytes.now) }
     ensures whole { IfOk result (λ bytes. length bytes.now ≡ 512) }
     ensures reached { (ty : ℕ) → Under (S.types_of store.now) (latest (S.state_of store.now).lives) fs.number block ty → IsOk result }
@@ -160,7 +158,7 @@ pub fn find_file<S: Store>(store: &S, fs: Fs, number: u16) -> Result<Found, FfsF
 }
 
 /// The place of the entry with this name in a directory's block.
-fn entry_in(block: &[u8; 512], name: &[u8]) -> Option<usize>
+fn entry_in(block: &[u8; BLOCK_LEN], name: &[u8]) -> Option<usize>
     ensures entry { IfSome result (λ place. (place < 16) × (half_at block.now (32 * place) ≢ 0)) }
     ensures exact { result ≡ find (λ place. not (half_at block.now (32 * place) == 0) &&
         bytes_eq (name_in block.now (32 * place)) name.now) (range_with_len 0 16) }
@@ -169,7 +167,7 @@ fn entry_in(block: &[u8; 512], name: &[u8]) -> Option<usize>
 }
 
 /// The first place without an entry in a directory's block.
-fn gap_in(block: &[u8; 512]) -> Option<usize>
+fn gap_in(block: &[u8; BLOCK_LEN]) -> Option<usize>
     ensures gap { IfSome result (λ place. (place < 16) × (half_at block.now (32 * place) ≡ 0)) }
     ensures exact { result ≡ find (λ place. half_at block.now (32 * place) == 0) (range_with_len 0 16) }
 {
@@ -243,7 +241,7 @@ pub fn find_room<S: Store>(
 }
 
 /// Whether a directory's block has an entry.
-fn has_entries(block: &[u8; 512]) -> bool
+fn has_entries(block: &[u8; BLOCK_LEN]) -> bool
     ensures { result ≡ list_any (λ place. not (half_at block.now (32 * place) == 0)) (range_with_len 0 16) }
 {
     (0..ENTRIES).any(|place| entry_inode(block, place) != 0)
@@ -268,7 +266,7 @@ pub fn is_empty<S: Store>(store: &S, fs: Fs, directory: &Found) -> Result<bool, 
 }
 
 /// The first place of an inode block whose inode is free.
-fn free_in(block: &[u8; 512]) -> Option<usize>
+fn free_in(block: &[u8; BLOCK_LEN]) -> Option<usize>
     ensures free { IfSome result (λ place. (place < 8) × (is_free_inode (inode_at block.now place) ≡ true)) }
     ensures exact { result ≡ find (λ place. is_free_inode (inode_at block.now place)) (range_with_len 0 8) }
 {
@@ -303,7 +301,7 @@ pub fn find_free<S: Store>(store: &S, fs: Fs) -> Result<Option<Free>, FfsFault>
 }
 
 /// The first of the pointers in a root block's bytes that is empty.
-fn empty_in(block: &[u8; 512]) -> Option<usize>
+fn empty_in(block: &[u8; BLOCK_LEN]) -> Option<usize>
     ensures empty { IfSome result (λ index. (index < 16) × (pointer_word block.now index ≡ 0)) }
     ensures exact { result ≡ find (λ index. pointer_word block.now index == 0) (range_with_len 0 16) }
 {

@@ -11,10 +11,8 @@ use crate::counts::count_names;
 use crate::fault::FfsFault;
 use crate::places::{DIRECTORY, Found, find_inode, is_empty};
 use edit_list::Fs;
+use ffs_format::inodes::MOST_INODES;
 use xn_state::Store;
-
-/// How many inodes there may be.
-const MOST_INODES: usize = 128;
 
 /// What an inode needs.
 #[derive(Clone, Copy, Debug)]
@@ -42,7 +40,7 @@ impl Repairs {
             return Repair::Keep;
         }
         let at = usize::from(inode - 1);
-        if at < MOST_INODES {
+        if at < MOST_INODES as usize {
             self.each[at]
         } else {
             Repair::Keep
@@ -95,7 +93,7 @@ pub fn look_up_repairs<S: Store>(store: &S, fs: Fs) -> Result<Repairs, FfsFault>
     }
     let counts = count_names(store, fs)?;
     let mut each = [Repair::Keep; 128];
-    for at in 1..MOST_INODES {
+    for at in 1..MOST_INODES as usize {
         let number = at as u16 + 1;
         each[at] = find_repair(store, fs, number, counts.of(number))?;
     }

@@ -3,7 +3,7 @@ use Rattle.std.proofs.Common.{◌≡◌, ℕ, ◌<◌, ◌≢◌, ◌⊎◌, fal
 use Rattle.std.specs.Prelude.{Contains, IsTrue, slice_set}
 use Rattle.std.proofs.lemmas.Bool.{cases_eq, cases_lt, false≢true}
 use Rattle.std.proofs.lemmas.Option.{same_Some, none-some}
-use Rattle.xn_model.specs.declared.status.Status.TheVariants.{Fresh}
+use Rattle.store_types.specs.declared.status.Status.TheVariants.{Fresh}
 use Rattle.xn_model.specs.Types.{Types}
 use Rattle.xn_model.specs.Root.{slot}
 use Rattle.xn_model.specs.Lives.{BlockState, Life, Lives, StoreState, life_at, bytes_of, current}

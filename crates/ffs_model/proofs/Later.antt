@@ -4,7 +4,7 @@ use Rattle.std.specs.Prelude.{Contains, IsTrue, Ok, nat_lt, slice_get, slice_set
 use Rattle.std.specs.List.{last_or}
 use Rattle.std.proofs.lemmas.Bool.{and_from, and_parts, ltb-true, lt-ltb}
 use Rattle.std.proofs.lemmas.List.Elements.{Contains-append_right, Contains-push}
-use Rattle.xn_model.specs.declared.refusal.Refusal.TheVariants.{NoSpace}
+use Rattle.store_types.specs.declared.refusal.Refusal.TheVariants.{NoSpace}
 use Rattle.xn_model.specs.Types.{Types}
 use Rattle.xn_model.specs.Languages.{Language}
 use Rattle.xn_model.specs.Lives.{BlockState, Life, StoreState, life_at, states, bytes_of, lowest_free, begun_at}

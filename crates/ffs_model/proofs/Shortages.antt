@@ -6,9 +6,9 @@ use Rattle.std.specs.Prelude.{Contains, IsTrue, Result, Ok, Err, ⊤, nat_lt, �
 use Rattle.std.specs.List.{list_all}
 use Rattle.std.proofs.lemmas.Bool.{and_parts, and_from, false_from_ne_true, le-ltb, true≢false}
 use Rattle.std.proofs.lemmas.List.Elements.{Contains-append_right}
-use Rattle.xn_model.specs.declared.refusal.Refusal.{Refusal}
-use Rattle.xn_model.specs.declared.refusal.Refusal.TheVariants.{NoMemory, NotInUse, NotYours, BadPatch, BadAfter, NotFresh, NotOwned, NotEmpty, ClaimWrong, SizeWrong, TooManyPending, NoSpace, BadType, RootTaken, Exhausted}
-use Rattle.xn_model.specs.declared.status.Status.TheVariants.{Fresh, Owned}
+use Rattle.store_types.specs.declared.refusal.Refusal.{Refusal}
+use Rattle.store_types.specs.declared.refusal.Refusal.TheVariants.{NoMemory, NotInUse, NotYours, BadPatch, BadAfter, NotFresh, NotOwned, NotEmpty, ClaimWrong, SizeWrong, TooManyPending, NoSpace, BadType, RootTaken, Exhausted}
+use Rattle.store_types.specs.declared.status.Status.TheVariants.{Fresh, Owned}
 use Rattle.xn_model.specs.Lists.{blocks_of, distinct, has_number}
 use Rattle.xn_model.specs.Types.{Types, changes, claims, fits, named_once, within_size}
 use Rattle.xn_model.specs.Root.{slot, owned_by_root, templates_of, roots_of}

@@ -7,11 +7,11 @@ ghost use Rattle.std.specs.Prelude.{◌≡◌, ◌≤◌, ◌+◌, ◌*◌, ◌%
 ghost use Rattle.disk.specs.Images.{block_of_image};
 
 use crate::fault::FileFault;
-use disk::BLOCK_LEN;
 use std::alloc::Global;
 use std::fs::File;
 use std::io;
 use std::os::unix::fs::FileExt;
+use store_types::BLOCK_LEN;
 
 /// How many bytes are read or written by one call at most.
 const PIECE_LEN: usize = 1 << 20;

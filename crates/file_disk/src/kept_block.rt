@@ -5,9 +5,9 @@ ghost use Rattle.file_disk.specs.File.{KeptBytes, OpenWriteBytes, fresh_kept, wi
 use crate::found_block::FoundBlock;
 use crate::open_writes::OpenWrites;
 use crate::shared_file::GoodSync;
-use disk::BLOCK_LEN;
 use std::alloc::{AllocError, Global};
 use std::marker::Model;
+use store_types::BLOCK_LEN;
 
 /// The bytes that a block has, and its writes that may not be settled. Each write puts the block in doubt, and nothing ends that but
 /// a `FoundBlock`.

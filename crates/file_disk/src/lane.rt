@@ -4,10 +4,11 @@ ghost use Rattle.file_disk.specs.File.{FileBlock, KeptBytes, file_block, file_le
 
 use crate::kept_block::KeptBlock;
 use crate::shared_file::SharedFile;
-use disk::{BLOCK_LEN, DeviceFault, Lane};
+use disk::{DeviceFault, Lane};
 use std::alloc::Global;
 use std::marker::Model;
 use std::sync::Arc;
+use store_types::BLOCK_LEN;
 
 /// A block of a file. It keeps a copy of the bytes that the block has, and a read answers them only where the file brings
 /// exactly these: what somebody else wrote into the file is a fault, and never an answer.

@@ -33,7 +33,7 @@ mod shared_file;
 
 pub use fault::FileFault;
 pub use lane::FileLane;
-pub use opening::{FileDisk, FileImage, MIN_BLOCKS, SystemFault};
+pub use opening::{FileDisk, FileImage, SystemFault};
 
 #[cfg(test)]
 mod tests;

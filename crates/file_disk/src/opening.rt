@@ -9,17 +9,15 @@ use crate::found_block::{FoundImage, write_blocks};
 use crate::lane::FileLane;
 use crate::lanes::{Shared, lanes_of, share};
 use crate::shared_file::GoodSync;
-use disk::{BLOCK_LEN, Lanes, MAX_BLOCKS};
+use disk::Lanes;
 use std::alloc::{AllocError, Global};
 use std::fs::{File, Files, Metadata, OpenOptions, TryLockError};
 use std::marker::Model;
 use std::path::Path;
 use std::sync::Arc;
 use std::{fs, io};
+use store_types::{BLOCK_LEN, MAX_BLOCKS, MIN_BLOCKS};
 use system_files::{Access, is_same, open_locked};
-
-/// The fewest blocks of a disk.
-pub const MIN_BLOCKS: u32 = 32;
 
 /// An open file, of 32 to 1,048,576 blocks, with a lane for each, all at home. Nobody else can open it as a disk until the last
 /// lane is dropped.

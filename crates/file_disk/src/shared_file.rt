@@ -9,12 +9,12 @@ ghost use Rattle.file_disk.specs.File.{with_found, with_given};
 use crate::fault::FileFault;
 use crate::found_block::{FoundBlock, FoundImage};
 use crate::kept_block::KeptBlock;
-use disk::BLOCK_LEN;
 use std::alloc::Global;
 use std::fs::File;
 use std::sync::Mutex;
 use std::sync::atomic::{AtomicBool, AtomicU64, Ordering};
 use std::{io, thread};
+use store_types::BLOCK_LEN;
 
 /// An open file, and the count of its syncs. Syncs are numbered from 1 on in the order in which they begin, and no two run at a
 /// time: the system tells of a write that it lost to one sync alone, so a sync that ran beside that one could be good and yet

@@ -11,6 +11,7 @@ use std::sync::Arc;
 use std::test::Fail;
 use std::thread::Threads;
 use std::{fs, thread};
+use store_types::BLOCK_LEN;
 
 #[test]
 fn keeps_what_is_written(rt: HostRuntime) -> Result<(), Fail> {
@@ -18,17 +19,17 @@ fn keeps_what_is_written(rt: HostRuntime) -> Result<(), Fail> {
     let mut lanes = FileDisk::create(&rt, rt.alloc(), "kept.disk", 64)?.into_lanes();
     assert_eq!(rt; fs::metadata(&rt, "kept.disk")?.len(), 32_768);
     let mut lane = lanes.take(5).ok_or("a lane")?;
-    lane.write(&[7; 512])?;
+    lane.write(&[7; BLOCK_LEN])?;
     lane.sync()?;
     assert!(rt; lanes.give(lane).is_ok());
     drop(lanes);
     let mut lanes = FileDisk::open(&rt, rt.alloc(), "kept.disk")?.into_lanes();
     assert_eq!(rt; lanes.blocks(), 64);
-    let mut bytes = [1; 512];
+    let mut bytes = [1; BLOCK_LEN];
     lanes.take(5).ok_or("a lane")?.read(&mut bytes)?;
-    assert_eq!(rt; bytes, [7; 512]);
+    assert_eq!(rt; bytes, [7; BLOCK_LEN]);
     lanes.take(6).ok_or("a lane")?.read(&mut bytes)?;
-    assert_eq!(rt; bytes, [0; 512]);
+    assert_eq!(rt; bytes, [0; BLOCK_LEN]);
     fs::remove_file(&rt, "kept.disk")?;
     Ok(())
 }
@@ -51,13 +52,13 @@ fn many_blocks_are_read_in_their_places(rt: HostRuntime) -> Result<(), Fail> {
     assert!(rt; matches!(image.bytes().get(512 * 2_048), Some(b'x')));
     let mut lanes = image.into_disk(rt.alloc())?.into_lanes();
     assert_eq!(rt; lanes.blocks(), 4_099);
-    let mut bytes = [1; 512];
+    let mut bytes = [1; BLOCK_LEN];
     lanes.take(4_098).ok_or("a lane")?.read(&mut bytes)?;
     assert_eq!(rt; bytes[511], b'y');
     lanes.take(2_048).ok_or("a lane")?.read(&mut bytes)?;
     assert_eq!(rt; bytes[0], b'x');
     lanes.take(4_097).ok_or("a lane")?.read(&mut bytes)?;
-    assert_eq!(rt; bytes, [0; 512]);
+    assert_eq!(rt; bytes, [0; BLOCK_LEN]);
     fs::remove_file(&rt, "fresh.disk")?;
     Ok(())
 }
@@ -69,12 +70,12 @@ fn what_others_write_is_a_fault(rt: HostRuntime) -> Result<(), Fail> {
     let mut lane = lanes.take(31).ok_or("a lane")?;
     let other = OpenOptions::new().write(true).open(&rt, "changed.disk")?;
     other.write_all_at(b"x", 512 * 31 + 500)?;
-    let mut bytes = [0; 512];
+    let mut bytes = [0; BLOCK_LEN];
     assert!(rt; lane.read(&mut bytes).is_err());
     assert_eq!(rt; lane.faults(), 1);
-    lane.write(&[9; 512])?;
+    lane.write(&[9; BLOCK_LEN])?;
     lane.read(&mut bytes)?;
-    assert_eq!(rt; bytes, [9; 512]);
+    assert_eq!(rt; bytes, [9; BLOCK_LEN]);
     other.set_len(512)?;
     assert!(rt; lane.read(&mut bytes).is_err());
     assert_eq!(rt; lane.faults(), 2);
@@ -101,8 +102,8 @@ fn a_second_opener_is_refused(rt: HostRuntime) -> Result<(), Fail> {
     assert!(rt; matches!(fifth, Err(FileFault::InUse)));
     let mut lane = lanes.take(3).ok_or("a lane")?;
     lane.sync()?;
-    assert!(rt; lane.write(&[1; 512]).is_err());
-    lane.read(&mut [0; 512])?;
+    assert!(rt; lane.write(&[1; BLOCK_LEN]).is_err());
+    lane.read(&mut [0; BLOCK_LEN])?;
     fs::remove_file(&rt, "locked.disk")?;
     Ok(())
 }
@@ -139,25 +140,25 @@ fn a_write_that_fails_is_settled(rt: HostRuntime) -> Result<(), Fail> {
     let file = Arc::new(rt.alloc(), file).ok().ok_or("memory")?;
     let image = file.find_image(rt.alloc(), 32)?;
     let mut lane = lane_of(rt.alloc(), &file, &opened, &image.block(3))?;
-    let mut bytes = [1; 512];
-    assert!(rt; lane.write(&[8; 512]).is_err());
+    let mut bytes = [1; BLOCK_LEN];
+    assert!(rt; lane.write(&[8; BLOCK_LEN]).is_err());
     lane.read(&mut bytes)?;
-    assert_eq!(rt; bytes, [0; 512]);
+    assert_eq!(rt; bytes, [0; BLOCK_LEN]);
     lane.sync()?;
     // It can't be read back either, until it is whole again.
     let other = OpenOptions::new().write(true).open(&rt, "failing.disk")?;
     other.set_len(0)?;
-    assert!(rt; lane.write(&[8; 512]).is_err());
+    assert!(rt; lane.write(&[8; BLOCK_LEN]).is_err());
     assert!(rt; lane.sync().is_err());
     assert!(rt; lane.read(&mut bytes).is_err());
     assert_eq!(rt; lane.faults(), 4);
     other.set_len(16_384)?;
     lane.sync()?;
     // The new bytes are there after all.
-    other.write_all_at(&[8; 512], 1536)?;
-    assert!(rt; lane.write(&[8; 512]).is_err());
+    other.write_all_at(&[8; BLOCK_LEN], 1536)?;
+    assert!(rt; lane.write(&[8; BLOCK_LEN]).is_err());
     lane.read(&mut bytes)?;
-    assert_eq!(rt; bytes, [8; 512]);
+    assert_eq!(rt; bytes, [8; BLOCK_LEN]);
     fs::remove_file(&rt, "failing.disk")?;
     Ok(())
 }
@@ -180,23 +181,23 @@ fn a_failed_sync_is_for_good(rt: HostRuntime) -> Result<(), Fail> {
     let mut one = lane_of(rt.alloc(), &file, &opened, &image.block(1))?;
     let mut two = lane_of(rt.alloc(), &file, &opened, &image.block(2))?;
     let mut three = lane_of(rt.alloc(), &file, &opened, &image.block(3))?;
-    one.write(&[0; 512])?;
+    one.write(&[0; BLOCK_LEN])?;
     assert!(rt; one.sync().is_err());
     assert!(rt; one.sync().is_err());
     assert_eq!(rt; one.faults(), 2);
     two.sync()?;
-    two.write(&[0; 512])?;
+    two.write(&[0; BLOCK_LEN])?;
     assert!(rt; two.sync().is_err());
     // What it forgot is a fault, too.
-    three.write(&[1; 512])?;
-    assert!(rt; three.read(&mut [0; 512]).is_err());
+    three.write(&[1; BLOCK_LEN])?;
+    assert!(rt; three.read(&mut [0; BLOCK_LEN]).is_err());
     Ok(())
 }
 
 /// Writes and syncs a block many times.
 fn turn(lane: &mut FileLane) {
     for byte in 0..100 {
-        let _ = lane.write(&[byte; 512]);
+        let _ = lane.write(&[byte; BLOCK_LEN]);
         let _ = lane.sync();
     }
 }
@@ -210,11 +211,11 @@ fn many_threads_sync(rt: HostRuntime) -> Result<(), Fail> {
         taken.push(lanes.take(block).ok_or("a lane")?)?;
     }
     thread::for_each_mut(&rt, &mut taken, 8, &|_, lane| turn(lane));
-    let mut bytes = [0; 512];
+    let mut bytes = [0; BLOCK_LEN];
     for lane in &mut taken {
         assert_eq!(rt; lane.faults(), 0);
         lane.read(&mut bytes)?;
-        assert_eq!(rt; bytes, [99; 512]);
+        assert_eq!(rt; bytes, [99; BLOCK_LEN]);
     }
     fs::remove_file(&rt, "threads.disk")?;
     Ok(())

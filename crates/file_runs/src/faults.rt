@@ -3,8 +3,8 @@
 use crate::out::{Out, Value};
 use crate::pair::{Pair, Step, Told};
 use ffs_lib::{FfsFault, Fs};
+use store_types::Refusal;
 use volume_pair::Action;
-use xn_model::Refusal;
 
 /// What stands before these calls: inode 2 is the file `f`, inode 3 the directory `d`, which has an entry.
 static BEFORE: [Step<'static>; 4] = [

@@ -5,6 +5,7 @@ use crate::scan::{block_of, scan};
 use ffs_lib::{FfsFault, Fs, Repairs};
 use std::alloc::{AllocError, Global};
 use std::thread::Threads;
+use store_types::BLOCK_LEN;
 use volume_pair::{Action, Disk, Files};
 use world::Running;
 use xn_state::Store;
@@ -62,7 +63,7 @@ pub enum Event {
     Finish(u32),
     /// A write from its begin to its end.
     Write(u32),
-    Install([u8; 512]),
+    Install([u8; BLOCK_LEN]),
 }
 
 /// Two file systems in a world.

@@ -9,6 +9,7 @@ use ffs_lib::{FfsFault, Fs};
 use pseudo_random::Numbers;
 use std::alloc::{AllocError, Global};
 use std::thread::Threads;
+use store_types::BLOCK_LEN;
 use templates::{Template, write_block};
 use volume_pair::Action;
 
@@ -315,7 +316,7 @@ impl Run {
     fn install(&mut self) {
         let block = match self.templates.get(usize::from(self.numbers.below(4))) {
             Some(template) => write_block(template),
-            None => [0; 512],
+            None => [0; BLOCK_LEN],
         };
         let is_installed = self.pair.happens(Event::Install(block));
         count(&mut self.tally.installed, is_installed);

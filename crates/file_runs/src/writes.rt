@@ -5,8 +5,8 @@ use crate::out::{Out, Value};
 use crate::pair::{Event, Pair, Step};
 use ffs_lib::{FfsFault, Fs};
 use std::thread::Threads;
+use store_types::{BLOCK_LEN, Refusal};
 use volume_pair::Action;
-use xn_model::Refusal;
 
 /// How many bytes a file has at most.
 const MOST: u32 = 71_680;
@@ -63,7 +63,7 @@ fn tell_crashed(rt: &(impl Threads + Sync), pair: &mut Pair, fs: Fs, out: &mut O
         let _ = pair.happens(Event::Write(block));
     }
     let is_open = pair.is_open_after(rt, fs, &[]);
-    let size = pair.read(fs, inode, 0, &mut [0; 512]).unwrap_or(0);
+    let size = pair.read(fs, inode, 0, &mut [0; BLOCK_LEN]).unwrap_or(0);
     let past = pair.call(fs, Action::Write(inode, 450, b"x"));
     let set = count_set(pair, fs, inode, 10, 450);
     let values = [

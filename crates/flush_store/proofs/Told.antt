@@ -1,6 +1,6 @@
 -- What a store tells of a flush of its kernel: the waves, or the refusal.
 use Rattle.std.proofs.Common.{◌≡◌, ℕ, Result, Ok, Err, sym, subst, IfOk, IfErr, MatchResult, OnOk}
-use Rattle.xn_model.specs.declared.refusal.Refusal.{Refusal}
+use Rattle.store_types.specs.declared.refusal.Refusal.{Refusal}
 
 module _ {S : Type 0} (refusal : S → Refusal) where
   abbrev pub Tells : Result ℕ Refusal → Result ℕ S → Type 0

@@ -5,6 +5,7 @@ use disk::{MemDisk, MemLane};
 use ffs_format::templates;
 use std::alloc::{AllocError, Global};
 use std::thread::Threads;
+use store_types::BLOCK_LEN;
 use templates::{Template, format_image, read_block};
 use xn_kernel::Kernel;
 
@@ -33,7 +34,7 @@ const POINTED: usize = 18;
 
 /// The template of type 6 or 7, whose blocks point to blocks of this type.
 fn tree_template(alloc: Global, ty: u8) -> Result<Template, AllocError> {
-    let mut block = [0u8; 512];
+    let mut block = [0u8; BLOCK_LEN];
     block[..TREE.len()].copy_from_slice(&TREE);
     block[POINTED] = ty;
     match read_block(alloc, &block) {

@@ -7,6 +7,7 @@ use crate::tally::{Kind, Met};
 use crate::writes::{Write, drain};
 use disk::MemLane;
 use std::alloc::{AllocError, Global};
+use store_types::BLOCK_LEN;
 use xn_kernel::{Kernel, Refusal};
 
 /// A device's answer as a number.
@@ -125,7 +126,7 @@ impl Run {
 
     /// Asks for a second write of a block that is in flight.
     fn refuse_begin(&mut self, kernel: &mut Kernel<MemLane>, block: u32) {
-        match Write::begin(kernel, block, [0; 512]) {
+        match Write::begin(kernel, block, [0; BLOCK_LEN]) {
             Ok(_) => self.tally.check(false),
             Err(refusal) => self.tally.check(refusal == Refusal::InFlight),
         }

@@ -1,9 +1,10 @@
 // What each block of a device holds that keeps writes back until a sync, as the rules of such a device say it.
 
 use crate::record::Record;
+use store_types::BLOCK_LEN;
 
 /// The bytes of a block.
-pub type Bytes = [u8; 512];
+pub type Bytes = [u8; BLOCK_LEN];
 
 /// A block of the device.
 #[derive(Clone, Copy)]
@@ -77,7 +78,7 @@ impl Record {
     pub fn held(&self, block: u32) -> Held {
         match self.held.get(block as usize) {
             Some(held) => *held,
-            None => Held::rest([0; 512]),
+            None => Held::rest([0; BLOCK_LEN]),
         }
     }
 
@@ -92,7 +93,7 @@ impl Record {
     pub fn start_of(&self, block: u32, ty: u32) -> Bytes {
         match self.starts.get(block as usize) {
             Some(bytes) if ty == 1 => *bytes,
-            _ => [0; 512],
+            _ => [0; BLOCK_LEN],
         }
     }
 
@@ -101,7 +102,7 @@ impl Record {
         let mut bytes = match self.life(block) {
             Some(life) if life.is_durable => self.held(block).settled,
             Some(life) => self.start_of(block, life.ty),
-            None => [0; 512],
+            None => [0; BLOCK_LEN],
         };
         let mut left = count;
         for entry in &self.entries {

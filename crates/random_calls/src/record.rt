@@ -3,6 +3,7 @@
 
 use crate::held::{Bytes, Held};
 use std::alloc::{AllocError, Global};
+use store_types::BLOCK_LEN;
 
 /// How many blocks the disk has.
 pub const BLOCKS: u32 = 64;
@@ -76,8 +77,8 @@ impl Record {
             lives: vec![in alloc; None; BLOCKS as usize]?,
             entries: Vec::new(alloc),
             next: 1,
-            held: vec![in alloc; Held::rest([0; 512]); BLOCKS as usize]?,
-            starts: vec![in alloc; [0; 512]; BLOCKS as usize]?,
+            held: vec![in alloc; Held::rest([0; BLOCK_LEN]); BLOCKS as usize]?,
+            starts: vec![in alloc; [0; BLOCK_LEN]; BLOCKS as usize]?,
             shapes: [0; 16],
         };
         record.restart();

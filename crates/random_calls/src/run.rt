@@ -11,6 +11,7 @@ use crate::writes::Write;
 use disk::MemLane;
 use pseudo_random::Numbers;
 use std::alloc::{AllocError, Global};
+use store_types::BLOCK_LEN;
 use xn_kernel::{EditId, Fs, Kernel, Refusal, Store};
 
 /// How many file systems make calls.
@@ -340,7 +341,7 @@ impl Run {
 
 /// The bytes that words leave where there were zeros.
 fn first_bytes(words: [(u16, u32); 2]) -> Bytes {
-    let mut bytes = [0; 512];
+    let mut bytes = [0; BLOCK_LEN];
     for (offset, word) in words {
         put_word(&mut bytes, offset, word);
     }

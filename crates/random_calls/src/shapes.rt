@@ -1,6 +1,7 @@
 // Templates that are installed: shapes of blocks, the blocks that spell them, and blocks that spell none.
 
 use crate::held::{Bytes, put_word, word_at};
+use store_types::BLOCK_LEN;
 
 /// How many shapes there are.
 pub const SHAPES: u16 = 12;
@@ -159,7 +160,7 @@ impl Code {
 /// The block that spells the template of a shape.
 pub fn block_of(shape: &Shape) -> Bytes {
     let mut code = Code {
-        bytes: [0; 512],
+        bytes: [0; BLOCK_LEN],
         words: 0,
     };
     code.owns(shape);
@@ -178,7 +179,7 @@ pub fn spoiled(bytes: &Bytes, way: u16) -> Bytes {
     let last = (u16::from(owns) + u16::from(size)).saturating_mul(4);
     let mut bytes = *bytes;
     match way {
-        0 => bytes = [0; 512],
+        0 => bytes = [0; BLOCK_LEN],
         // another mark
         1 => put_word(&mut bytes, 0, head ^ 0x0100),
         // cut short by a word

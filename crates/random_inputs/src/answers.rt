@@ -6,6 +6,7 @@ ghost use Rattle.udf_code.specs.Structure.{structure_of};
 use arrayvec::ArrayVec;
 use std::alloc::{AllocError, Global};
 use std::fmt;
+use store_types::BLOCK_LEN;
 use udf_asm::{assemble, print};
 use udf_code::{Word, decode, encode, well_formed};
 use udf_run::{Pair, owns, size};
@@ -53,7 +54,7 @@ impl Answers {
         &mut self,
         alloc: Global,
         words: &[Word],
-        blocks: &[[u8; 512]; BLOCKS],
+        blocks: &[[u8; BLOCK_LEN]; BLOCKS],
     ) -> Result<(), AllocError>
         requires { IsOk (structure_of words.now) }
     {
@@ -103,7 +104,7 @@ impl Answers {
         alloc: Global,
         words: &[Word],
         is_spelled_again: bool,
-        blocks: &[[u8; 512]; BLOCKS],
+        blocks: &[[u8; BLOCK_LEN]; BLOCKS],
     ) -> Result<(), AllocError> {
         if !is_spelled_again {
             self.respelled = self.respelled.wrapping_add(1);
@@ -119,7 +120,7 @@ impl Answers {
         &mut self,
         alloc: Global,
         bytes: &[u8],
-        blocks: &[[u8; 512]; BLOCKS],
+        blocks: &[[u8; BLOCK_LEN]; BLOCKS],
     ) -> Result<(), AllocError> {
         self.codes = self.codes.wrapping_add(1);
         match decode(alloc, bytes) {
@@ -136,7 +137,7 @@ impl Answers {
         &mut self,
         alloc: Global,
         text: &str,
-        blocks: &[[u8; 512]; BLOCKS],
+        blocks: &[[u8; BLOCK_LEN]; BLOCKS],
     ) -> Result<(), AllocError> {
         self.texts = self.texts.wrapping_add(1);
         match assemble(alloc, text) {

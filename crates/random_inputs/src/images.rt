@@ -5,6 +5,7 @@ ghost use Rattle.std.specs.Prelude.{◌<◌};
 use ffs_format::templates;
 use pseudo_random::Numbers;
 use std::alloc::{AllocError, Global};
+use store_types::BLOCK_LEN;
 use templates::write_block;
 
 /// Writes bytes from a place on, as far as the image goes.
@@ -22,7 +23,7 @@ fn put_number(image: &mut [u8], at: usize, number: u16) {
 }
 
 /// The blocks of the three templates.
-pub fn template_blocks(alloc: Global) -> Result<Vec<[u8; 512]>, AllocError> {
+pub fn template_blocks(alloc: Global) -> Result<Vec<[u8; BLOCK_LEN]>, AllocError> {
     let mut blocks = Vec::new(alloc);
     for template in &templates(alloc)? {
         blocks.push(write_block(template))?;
@@ -31,7 +32,11 @@ pub fn template_blocks(alloc: Global) -> Result<Vec<[u8; 512]>, AllocError> {
 }
 
 /// A disk of 32 to 35 blocks with these templates, and no roots.
-fn bare_image(alloc: Global, blocks: u16, templates: &[[u8; 512]]) -> Result<Vec<u8>, AllocError> {
+fn bare_image(
+    alloc: Global,
+    blocks: u16,
+    templates: &[[u8; BLOCK_LEN]],
+) -> Result<Vec<u8>, AllocError> {
     let mut image = vec![in alloc; 0u8; usize::from(blocks).wrapping_mul(512)]?;
     put(&mut image, 0, b"XN97");
     put_number(&mut image, 4, blocks);
@@ -87,7 +92,7 @@ fn damage(numbers: &mut Numbers, image: &mut [u8]) {
 pub fn random_image(
     alloc: Global,
     numbers: &mut Numbers,
-    templates: &[[u8; 512]],
+    templates: &[[u8; BLOCK_LEN]],
 ) -> Result<Vec<u8>, AllocError> {
     let blocks = numbers.below(4).wrapping_add(32);
     let mut image = bare_image(alloc, blocks, templates)?;

@@ -7,6 +7,7 @@ use crate::programs::{changed, random_bytes, random_program};
 use pseudo_random::Numbers;
 use std::alloc::{AllocError, Global};
 use std::str;
+use store_types::BLOCK_LEN;
 use udf_asm::assemble;
 use udf_code::encode;
 
@@ -26,9 +27,9 @@ ADD 9 8 6\nLD4 12 9\nIFLT 0 12\nEMIT 12 5\nEND\nEND\n";
 const TURNS: usize = 10_000;
 
 /// Zeros, 0xff, a counting pattern, and blocks of random bytes.
-fn some_blocks(numbers: &mut Numbers) -> [[u8; 512]; BLOCKS] {
-    let mut blocks = [[0; 512]; BLOCKS];
-    blocks[1] = [0xff; 512];
+fn some_blocks(numbers: &mut Numbers) -> [[u8; BLOCK_LEN]; BLOCKS] {
+    let mut blocks = [[0; BLOCK_LEN]; BLOCKS];
+    blocks[1] = [0xff; BLOCK_LEN];
     for at in 0..512 {
         blocks[2][at] = (at % 256) as u8;
     }
@@ -54,7 +55,7 @@ fn take_turn(
     numbers: &mut Numbers,
     answers: &mut Answers,
     text: &str,
-    blocks: &[[u8; 512]; BLOCKS],
+    blocks: &[[u8; BLOCK_LEN]; BLOCKS],
 ) -> Result<(), AllocError> {
     let small = [
         0, 1, 2, 3, 4, 5, 6, 7, 8, 9, 10, 11, 12, 13, 14, 15, 16, 17, 18, 19,

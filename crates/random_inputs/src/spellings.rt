@@ -5,6 +5,7 @@ ghost use Rattle.std.specs.Prelude.{◌+◌, ◌≤◌, length};
 use arrayvec::ArrayVec;
 use pseudo_random::Numbers;
 use std::alloc::{AllocError, Global};
+use store_types::BLOCK_LEN;
 use templates::{Template, read_block, write_block};
 use udf_asm::{assemble, print};
 use udf_code::{decode, encode};
@@ -125,10 +126,10 @@ const POINTERS: [u8; 36] = [
 ];
 
 /// The block of two programs with this code.
-fn spelled(owns_code: &[u8], size_code: &[u8]) -> [u8; 512]
+fn spelled(owns_code: &[u8], size_code: &[u8]) -> [u8; BLOCK_LEN]
     requires { length owns_code.now + length size_code.now ≤ 508 }
 {
-    let mut block = [0u8; 512];
+    let mut block = [0u8; BLOCK_LEN];
     block[0] = 0x58;
     block[1] = 0x54;
     block[2] = (owns_code.len() / 4) as u8;
@@ -140,7 +141,7 @@ fn spelled(owns_code: &[u8], size_code: &[u8]) -> [u8; 512]
 }
 
 /// A template's block, real or of random words, with up to three bytes changed.
-fn damaged_block(numbers: &mut Numbers) -> [u8; 512] {
+fn damaged_block(numbers: &mut Numbers) -> [u8; BLOCK_LEN] {
     let mut block = match numbers.byte(4) {
         0 => spelled(&INODE_BLOCKS, &SIZE_64),
         1 => spelled(&INODES, &SIZE_512),
@@ -155,8 +156,8 @@ fn damaged_block(numbers: &mut Numbers) -> [u8; 512] {
 }
 
 /// A block with the mark, two short programs of words whose codes and operands are mostly in range, and zeros.
-fn random_words(numbers: &mut Numbers) -> [u8; 512] {
-    let mut block = [0u8; 512];
+fn random_words(numbers: &mut Numbers) -> [u8; BLOCK_LEN] {
+    let mut block = [0u8; BLOCK_LEN];
     block[0] = 0x58;
     block[1] = 0x54;
     block[2] = numbers.byte(3);
@@ -173,7 +174,7 @@ fn random_words(numbers: &mut Numbers) -> [u8; 512] {
 }
 
 /// How many pairs the owns program of a template emits on a block, after its size program has run on it.
-fn pairs_on(template: &Template, block: &[u8; 512]) -> usize {
+fn pairs_on(template: &Template, block: &[u8; BLOCK_LEN]) -> usize {
     let mut out = ArrayVec::<Pair, 128>::new();
     let _size = size(template.size(), block);
     owns(template.owns(), block, &mut out);
@@ -189,7 +190,7 @@ pub fn try_blocks(alloc: Global) -> Result<(Spellings, usize), AllocError> {
         let block = damaged_block(&mut numbers);
         if let Ok(template) = read_block(alloc, &block) {
             spellings.note(write_block(&template).as_slice() == block.as_slice());
-            for bytes in [[0; 512], block] {
+            for bytes in [[0; BLOCK_LEN], block] {
                 pairs = pairs.wrapping_add(pairs_on(&template, &bytes));
             }
         }

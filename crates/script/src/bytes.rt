@@ -8,6 +8,7 @@ ghost use Rattle.script.specs.Bytes.{bytes_text, hex_digit, hex_pair, used_lengt
 use arrayvec::ArrayVec;
 use std::io;
 use std::io::Write;
+use store_types::BLOCK_LEN;
 
 /// The lower-case digit of base 16.
 fn hex_digit(value: u8) -> u8
@@ -22,7 +23,7 @@ fn hex_digit(value: u8) -> u8
 }
 
 /// How many bytes there are up to the last one that is not zero.
-fn used_length(bytes: &[u8; 512]) -> usize
+fn used_length(bytes: &[u8; BLOCK_LEN]) -> usize
     ensures length { result ≡ used_length bytes.now }
     ensures within { result ≤ 512 }
 {
@@ -51,7 +52,7 @@ fn hex_pairs(bytes: &[u8]) -> ArrayVec<u8, 1024>
 /// Prints a block's bytes without the zeros at their end, in pairs of digits, or `-` for none. It is not inlined, so that no other reply clears the room
 /// of the digits for it.
 #[inline(never)]
-pub fn print_bytes<W: Write>(out: &mut W, bytes: &[u8; 512]) -> io::Result<()>
+pub fn print_bytes<W: Write>(out: &mut W, bytes: &[u8; BLOCK_LEN]) -> io::Result<()>
     ensures { OnOk result (Appends (W.contents out.old) (W.contents out.new) (bytes_text bytes.now)) }
 {
     let used = used_length(bytes);

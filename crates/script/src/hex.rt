@@ -2,6 +2,7 @@ ghost use Rattle.std.specs.Prelude.{◌≡◌, ◌+◌, ◌*◌, ◌<◌, ◌≤
 ghost use Rattle.script.specs.Hex.{is_hex_digit, hex_digit_value, hex_byte, IsHex, IsBlockText, SpellsBlock, SpellsBytes, block_with};
 
 use std::alloc::{AllocError, Global};
+use store_types::BLOCK_LEN;
 
 /// The value of a lower-case digit of base 16.
 fn digit_value(digit: u8) -> Option<u8>
@@ -68,10 +69,10 @@ pub fn parse_start(alloc: Global, text: &str) -> Result<Option<Vec<u8>>, AllocEr
 }
 
 /// The block that begins with these bytes, as far as it has room; those behind them are zero.
-pub fn block_with(bytes: &[u8]) -> [u8; 512]
+pub fn block_with(bytes: &[u8]) -> [u8; BLOCK_LEN]
     ensures { result ≡ block_with bytes.now }
 {
-    let mut block = [0u8; 512];
+    let mut block = [0u8; BLOCK_LEN];
     let start = &bytes[..512usize.min(bytes.len())];
     block[..start.len()].copy_from_slice(start);
     block

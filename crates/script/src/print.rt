@@ -4,7 +4,7 @@ ghost use Rattle.std.specs.Prelude.{◌≡◌, ◌+◌, ◌≤◌, [], ◌∷◌
 ghost use Rattle.std.specs.Fmt.{decimal};
 ghost use Rattle.std.specs.Io.KnownBytes.{Appends};
 ghost use Rattle.arrayvec.specs.ArrayVec.{array_vec_len};
-ghost use Rattle.xn_model.specs.Refusals.{refusal_text};
+ghost use Rattle.store_types.specs.Refusals.{refusal_text};
 ghost use Rattle.script.specs.Replies.{answer_text, block_text, edit_text, installed_text, reply_line, result_text};
 ghost use Rattle.script.specs.Bytes.{bytes_text};
 
@@ -13,7 +13,7 @@ use arrayvec::ArrayVec;
 use itoa::Buffer;
 use std::io;
 use std::io::Write;
-use xn_model::Refusal;
+use store_types::{BLOCK_LEN, Refusal};
 use xn_state::{Answer, EditId, Installed, Reply};
 
 /// Adds a text and a number behind it to a line.
@@ -118,7 +118,7 @@ fn print_installed<W: Write>(out: &mut W, made: &Installed) -> io::Result<()>
 
 /// Prints the line of a block's bytes. It is not inlined either.
 #[inline(never)]
-fn print_block_bytes<W: Write>(out: &mut W, bytes: &[u8; 512]) -> io::Result<()>
+fn print_block_bytes<W: Write>(out: &mut W, bytes: &[u8; BLOCK_LEN]) -> io::Result<()>
     ensures { OnOk result (Appends (W.contents out.old) (W.contents out.new) (bytes_text bytes.now ++ 10 ∷ [])) }
 {
     print_bytes(out, bytes)?;

@@ -5,7 +5,7 @@ use Rattle.std.proofs.lemmas.Bool.{cond_both}
 use Rattle.xn_model.specs.Types.{Types}
 use Rattle.xn_model.specs.Lists.{has_number}
 use Rattle.xn_model.specs.Lives.{BlockState, Life, Lives, StoreState, life_at, begun_at, settled_at, freed, drops_of, lowest_free, is_for, entries_in, entries_at, entries_of, least_to}
-use Rattle.xn_model.specs.declared.refusal.Refusal.{Refusal}
+use Rattle.store_types.specs.declared.refusal.Refusal.{Refusal}
 use Rattle.xn_model.specs.Results.{unless, result_map, result_and_then, Gives, GivesExactly}
 use Rattle.xn_model.specs.Calls.{Edit, floor_of, new_life, init_at, init_refusal, init_of, accepts, propose_refusal, propose_at, propose_of, edited, make_root_refusal, make_root_at, make_root_of, root_state, slot_now, drop_root_refusal, drop_root_of, forget_refusal, forget_at, forget_of, own_life, begun_place, begun_of, first_pending, settled_place, settled_after, settled_of}
 use Rattle.xn_model.proofs.ForCallers.{accepted, accepted_is, bared, begun_is, each, each_at, free, free_at, gives_exactly_keeps, gives_keeps, settled, settled_is, with_begun}

@@ -5,8 +5,8 @@ use Rattle.std.specs.Result.{is_err}
 use Rattle.disk.specs.Lanes.{CountsOne}
 use Rattle.disk.specs.declared.lane.DeviceFault.{DeviceFault}
 use Rattle.xn_model.specs.Lives.{StoreState}
-use Rattle.xn_model.specs.declared.refusal.Refusal.{Refusal}
-use Rattle.xn_model.specs.declared.refusal.Refusal.TheVariants.{Device, NotMine}
+use Rattle.store_types.specs.declared.refusal.Refusal.{Refusal}
+use Rattle.store_types.specs.declared.refusal.Refusal.TheVariants.{Device, NotMine}
 use Rattle.xn_model.specs.Results.{GivesExactly, result_map}
 use Rattle.xn_model.specs.Calls.{pick_of, begun_of, settled_of}
 use Rattle.xn_model.proofs.ForCallers.{gives_exactly-ok, picked_begins}

@@ -11,8 +11,8 @@ use Rattle.std.specs.Prelude.{◌≡◌, ◌⊎◌, ℕ, zero, suc, ◌+◌, ◌
 use Rattle.disk.specs.Lanes.{CountsOne}
 use Rattle.disk.specs.declared.lane.DeviceFault.{DeviceFault}
 use Rattle.xn_model.specs.Lives.{StoreState}
-use Rattle.xn_model.specs.declared.refusal.Refusal.{Refusal}
-use Rattle.xn_model.specs.declared.refusal.Refusal.TheVariants.{Device, NotMine}
+use Rattle.store_types.specs.declared.refusal.Refusal.{Refusal}
+use Rattle.store_types.specs.declared.refusal.Refusal.TheVariants.{Device, NotMine}
 use Rattle.xn_model.specs.Calls.{pick_of, begun_of, settled_of}
 use Rattle.xn_kernel.specs.Kernels.{KernelValue, TicketValue, is_mine}
 use Rattle.xn_kernel.specs.Drains.{Reads, WriteRelation, Writes}

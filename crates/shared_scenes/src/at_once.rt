@@ -13,6 +13,7 @@ use std::alloc::{AllocError, Global};
 use std::process::Abort;
 use std::sync::Wait;
 use std::thread::{Threads, join, map_indices};
+use store_types::BLOCK_LEN;
 use xn_kernel::{Answer, Call, EditId, Fs};
 
 /// How many file systems have a worker.
@@ -95,8 +96,8 @@ fn are_nine_on<K: Naming + Send + Sync, R: Threads + Wait + Abort + Sync>(
 }
 
 /// Bytes 0 to 39 are 1 to 40, and all others 0.
-fn edited() -> [u8; 512] {
-    let mut bytes = [0; 512];
+fn edited() -> [u8; BLOCK_LEN] {
+    let mut bytes = [0; BLOCK_LEN];
     for byte in 0..EDITS {
         bytes[usize::from(byte)] = byte + 1;
     }
@@ -111,7 +112,7 @@ pub fn run_at_once<K: Naming + Send + Sync, R: Threads + Wait + Abort + Sync>(
     shared: &Kernels<K>,
     stranger: &mut Reader,
     reader: &mut Reader,
-) -> [u8; 512]
+) -> [u8; BLOCK_LEN]
     requires stranger { stranger.old.floor ≡ K.floor }
     requires reader { reader.old.floor ≡ K.floor }
 {

@@ -7,6 +7,7 @@ use std::alloc::{AllocError, Global};
 use std::fmt::Debug;
 use std::process::Abort;
 use std::thread::Threads;
+use store_types::BLOCK_LEN;
 use xn_kernel::{Edit, Patch};
 
 /// Ends the test, and says what was not so.
@@ -20,8 +21,8 @@ pub fn same<T: PartialEq + Debug + Drop>(rt: &impl Abort, what: &str, came: T, w
 }
 
 /// A block that begins with `ABC`.
-pub fn letters() -> [u8; 512] {
-    let mut bytes = [0; 512];
+pub fn letters() -> [u8; BLOCK_LEN] {
+    let mut bytes = [0; BLOCK_LEN];
     bytes[0] = 0x41;
     bytes[1] = 0x42;
     bytes[2] = 0x43;
@@ -54,7 +55,7 @@ pub fn is_on_disk<R: Threads + Abort + Sync>(
     alloc: Global,
     lanes: Lanes<SceneLane>,
     systems: usize,
-    bytes: &[u8; 512],
+    bytes: &[u8; BLOCK_LEN],
 ) {
     let image = image_of(alloc, lanes).expect(rt, "memory");
     let wanted = (systems.saturating_add(1), 31usize.saturating_sub(systems));
@@ -64,7 +65,7 @@ pub fn is_on_disk<R: Threads + Abort + Sync>(
         counts(rt, alloc, &image),
         wanted,
     );
-    let (blocks, _) = image.as_chunks::<512>();
+    let (blocks, _) = image.as_chunks::<BLOCK_LEN>();
     for at in 0..systems {
         let is_right = blocks.get(at.saturating_add(1)) == Some(bytes);
         same(rt, "a block on the disk", (at, is_right), (at, true));

@@ -10,6 +10,7 @@ use std::sync::Arc;
 use std::sync::atomic::{AtomicBool, AtomicU32, Ordering};
 use std::thread;
 use std::time::Duration;
+use store_types::BLOCK_LEN;
 use templates::format_image;
 
 /// Holds each thread that comes for at most 10,000 turns of a millisecond, until it is answered.
@@ -160,11 +161,11 @@ impl Lane for SceneLane {
         self.lane.faults()
     }
 
-    fn read(&mut self, into: &mut [u8; 512]) -> Result<(), DeviceFault> {
+    fn read(&mut self, into: &mut [u8; BLOCK_LEN]) -> Result<(), DeviceFault> {
         self.lane.read(into)
     }
 
-    fn write(&mut self, from: &[u8; 512]) -> Result<(), DeviceFault> {
+    fn write(&mut self, from: &[u8; BLOCK_LEN]) -> Result<(), DeviceFault> {
         self.writes = self.writes.wrapping_add(1);
         self.is_unsynced = true;
         let is_first = self.writes == 1 && self.lane.number() == 1;
@@ -236,7 +237,7 @@ pub fn image_of(alloc: Global, mut lanes: Lanes<SceneLane>) -> Result<Vec<u8>, A
         if (block as usize) < lanes.blocks()
             && let Some(mut lane) = lanes.take(block)
         {
-            let mut bytes = [0; 512];
+            let mut bytes = [0; BLOCK_LEN];
             let _ = lane.read(&mut bytes);
             image.extend_from_slice(&bytes)?;
         }

@@ -13,6 +13,7 @@ use std::process::Abort;
 use std::sync::Wait;
 use std::thread;
 use std::thread::{Threads, join, map_indices};
+use store_types::BLOCK_LEN;
 use xn_kernel::{Edit, Fs, Refusal, Store};
 
 /// How many file systems have a worker.
@@ -125,8 +126,8 @@ fn flush_at_once<K: Naming + Send + Sync, R: Threads + Wait + Abort + Sync>(
 }
 
 /// Each place has the last number that was proposed for it.
-fn last_numbers() -> [u8; 512] {
-    let mut bytes = [0; 512];
+fn last_numbers() -> [u8; BLOCK_LEN] {
+    let mut bytes = [0; BLOCK_LEN];
     for number in 0..EDITS {
         let at = usize::from(place(number));
         for (i, byte) in number.to_le_bytes().iter().enumerate() {
@@ -144,7 +145,7 @@ pub fn run_many<K: Naming + Send + Sync, R: Threads + Wait + Abort + Sync>(
     alloc: Global,
     shared: &Kernels<K>,
     reader: &mut Reader,
-) -> [u8; 512]
+) -> [u8; BLOCK_LEN]
     requires { reader.old.floor ≡ K.floor }
 {
     start(rt, shared, SYSTEMS);

@@ -17,6 +17,7 @@ use std::marker::Brand;
 use std::process::Abort;
 use std::sync::{Arc, Wait};
 use std::thread::Threads;
+use store_types::BLOCK_LEN;
 use xn_kernel::Fs;
 
 /// What threads do with a kernel.
@@ -66,7 +67,7 @@ fn play_with<K: Naming + Send + Sync, R: Threads + Wait + Abort + Sync>(
 {
     let fs = Fs::new(0).expect(rt, "a file system");
     let mut systems = 0;
-    let mut left = [0; 512];
+    let mut left = [0; BLOCK_LEN];
     match scene {
         Scene::Flush => {
             let mut reader = reader.expect(rt, "a reader");

@@ -13,6 +13,7 @@ use std::alloc::{AllocError, Global};
 use std::process::Abort;
 use std::sync::{Arc, Wait};
 use std::thread::{Threads, map_indices};
+use store_types::BLOCK_LEN;
 use xn_kernel::{EditId, Fs, Kernel, Landed, Refusal, Store, Ticket};
 
 /// The kernel of a scene.
@@ -52,7 +53,7 @@ pub fn begin<K: Naming, R: Wait>(
     shared: &Kernels<K>,
     fs: Fs,
     block: u32,
-    bytes: &[u8; 512],
+    bytes: &[u8; BLOCK_LEN],
 ) -> (Result<(u32, EditId), Refusal>, Result<EditId, Refusal>) {
     shared.with(rt, |hub| (hub.init(fs, 2, bytes), hub.make_root(fs, block)))
 }
@@ -63,7 +64,7 @@ pub fn start<K: Naming, R: Wait + Abort>(rt: &R, shared: &Kernels<K>, systems: u
         let fs = Fs::new(number).expect(rt, "a file system");
         let block = u32::from(number) + 1;
         let entry = 2 * u64::from(number) + 1;
-        let begun = begin(rt, shared, fs, block, &[0; 512]);
+        let begun = begin(rt, shared, fs, block, &[0; BLOCK_LEN]);
         let wanted = (Ok((block, EditId(entry))), Ok(EditId(entry + 1)));
         same(rt, "a block and a root", begun, wanted);
     }
@@ -75,7 +76,7 @@ pub fn found<K: Naming, R: Wait>(
     shared: &Kernels<K>,
     fs: Fs,
     block: u32,
-    bytes: &[u8; 512],
+    bytes: &[u8; BLOCK_LEN],
 ) -> (u32, bool) {
     shared.with(
         rt,
@@ -90,7 +91,7 @@ pub fn all_told<K: Naming, R: Wait + Abort>(
     reader: &mut Reader,
     systems: u8,
     floor: u64,
-    bytes: &[u8; 512],
+    bytes: &[u8; BLOCK_LEN],
 )
     requires { reader.old.floor ≡ K.floor }
 {

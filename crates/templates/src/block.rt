@@ -14,6 +14,7 @@ use crate::template::Template;
 use crate::words::write_words;
 use arrayvec::ArrayVec;
 use std::alloc::Global;
+use store_types::BLOCK_LEN;
 use udf_code::{MAX_WORDS, WORD_LEN, Word};
 
 /// The first bytes of a template's block.
@@ -24,7 +25,7 @@ const CODE_START: usize = 4;
 
 /// The template that a block spells, or the first of the faults in the order `BadMark`, `BadCode`, `NotVerified`,
 /// `BytesAfter`. Memory is taken last, for a template alone, so `NoMemory` hides no fault of the block.
-pub fn read_block(alloc: Global, block: &[u8; 512]) -> Result<Template, TemplateFault>
+pub fn read_block(alloc: Global, block: &[u8; BLOCK_LEN]) -> Result<Template, TemplateFault>
     // The blocks of templates are accepted, and no others.
     ensures accepted { IfOk result (λ template. (block.now ≡ template_bytes template) × IsTemplate template) }
     ensures refused { IfErr result (λ fault. (fault ≡ NoMemory) ⊎ ((template : TemplateValue) → IsTemplate template → block.now ≢ template_bytes template)) }
@@ -46,7 +47,7 @@ pub fn read_block(alloc: Global, block: &[u8; 512]) -> Result<Template, Template
 
 /// Leaves the words of the two programs of a template's block. No memory is taken.
 fn read_code(
-    block: &[u8; 512],
+    block: &[u8; BLOCK_LEN],
     owns: &mut ArrayVec<Word, 127>,
     size: &mut ArrayVec<Word, 127>,
 ) -> Result<(), TemplateFault>
@@ -69,7 +70,7 @@ fn read_code(
 }
 
 /// Where the owns program's code ends and where the size program's does, by a block's first four bytes.
-fn read_head(block: &[u8; 512]) -> Result<(usize, usize), TemplateFault>
+fn read_head(block: &[u8; BLOCK_LEN]) -> Result<(usize, usize), TemplateFault>
     ensures { MatchResult result
         (λ ends. (head_of block.now ≡ Ok tt) × (ends ≡ (owns_end block.now, size_end block.now)) × (size_end block.now ≤ 512))
         (λ fault. head_of block.now ≡ Err fault) }
@@ -95,13 +96,13 @@ fn is_blank(bytes: &[u8]) -> bool
 }
 
 /// The block that spells a template.
-pub fn write_block(template: &Template) -> [u8; 512]
+pub fn write_block(template: &Template) -> [u8; BLOCK_LEN]
     ensures bytes { result ≡ template_bytes template.now }
     ensures template { IsTemplate template.now }
 {
     let owns = template.owns().words();
     let size = template.size().words();
-    let mut block = [0u8; 512];
+    let mut block = [0u8; BLOCK_LEN];
     block[0] = MARK[0];
     block[1] = MARK[1];
     block[2] = owns.len() as u8;

@@ -7,12 +7,10 @@ ghost use Rattle.xn_model.specs.Images.{joined};
 
 use crate::block::write_block;
 use crate::fault::FormatFault;
-use crate::root::{CATALOGUE_PLACES, MARK, MAX_FORMAT_BLOCKS, MIN_BLOCKS, number_bytes};
+use crate::root::{CATALOGUE_PLACES, MARK, number_bytes};
 use crate::template::Template;
 use std::alloc::{AllocError, Global};
-
-/// The bytes of a block.
-const BLOCK_LEN: usize = 512;
+use store_types::{BLOCK_LEN, MAX_FORMAT_BLOCKS, MIN_BLOCKS};
 
 /// The block of the first template.
 const FIRST_TEMPLATE: u32 = 1;

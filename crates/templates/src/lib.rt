@@ -18,9 +18,8 @@ pub use built_ins::builtin;
 pub use fault::{FormatFault, TemplateFault};
 pub use format::format_image;
 pub use root::{
-    CATALOGUE_PLACES, MAX_FORMAT_BLOCKS, MIN_BLOCKS, ROOT_SLOTS, count_of, empty_place,
-    mark_is_right, pointer, pointer_start, root_bytes, root_slot, slot_start, with_pointer,
-    with_root_slot,
+    CATALOGUE_PLACES, ROOT_SLOTS, count_of, empty_place, mark_is_right, pointer, pointer_start,
+    root_bytes, root_slot, slot_start, with_pointer, with_root_slot,
 };
 pub use table::{FIRST_INSTALLED_TYPE, TEMPLATE_TYPE, Table};
 pub use template::Template;

@@ -9,13 +9,8 @@ ghost use Rattle.templates.specs.Meaning.{numbers_of_pair};
 ghost use Rattle.templates.specs.RootFields.{has_mark, slot_bytes};
 
 use byteorder::{ByteOrder, LittleEndian};
+use store_types::BLOCK_LEN;
 use udf_run::Pair;
-
-/// The least number of blocks that a disk has.
-pub const MIN_BLOCKS: u32 = 32;
-
-/// The greatest number of blocks of a disk whose image is made whole in memory, or held there by a world.
-pub const MAX_FORMAT_BLOCKS: u32 = 32_768;
 
 /// How many templates a catalogue has room for.
 pub const CATALOGUE_PLACES: usize = 16;
@@ -36,7 +31,7 @@ const POINTERS_START: usize = 8;
 const SLOTS_START: usize = 72;
 
 /// The number in the four bytes from a place on.
-fn word_at(block: &[u8; 512], at: usize) -> u32
+fn word_at(block: &[u8; BLOCK_LEN], at: usize) -> u32
     requires { at + 4 ≤ 512 }
     ensures { result ≡ word_at block.now at }
 {
@@ -44,7 +39,7 @@ fn word_at(block: &[u8; 512], at: usize) -> u32
 }
 
 /// Whether the block begins with block 0's mark.
-pub fn mark_is_right(block: &[u8; 512]) -> bool
+pub fn mark_is_right(block: &[u8; BLOCK_LEN]) -> bool
     ensures value { result ≡ has_mark block.now }
     // So, with the count, it is marked.
     ensures marked { (count : ℕ) → marked count block.now ≡ (result && word_at block.now 4 == count) }
@@ -53,14 +48,14 @@ pub fn mark_is_right(block: &[u8; 512]) -> bool
 }
 
 /// How many blocks the disk has, as block 0 says.
-pub fn count_of(block: &[u8; 512]) -> u32
+pub fn count_of(block: &[u8; BLOCK_LEN]) -> u32
     ensures { result ≡ word_at block.now 4 }
 {
     word_at(block, COUNT_START)
 }
 
 /// The block of template `i`, from 0 to 15, or 0 where that place of the catalogue is empty.
-pub fn pointer(block: &[u8; 512], i: usize) -> u32
+pub fn pointer(block: &[u8; BLOCK_LEN], i: usize) -> u32
     requires { i < 16 }
     ensures { result ≡ pointer block.now i }
 {
@@ -68,7 +63,7 @@ pub fn pointer(block: &[u8; 512], i: usize) -> u32
 }
 
 /// The lowest place of the catalogue that names no template.
-pub fn empty_place(block: &[u8; 512]) -> Option<usize>
+pub fn empty_place(block: &[u8; BLOCK_LEN]) -> Option<usize>
     ensures place { result ≡ empty_place block.now }
     ensures few { IfSome result (λ place. place < 16) }
 {
@@ -89,7 +84,7 @@ pub fn pointer_start(i: usize) -> usize
 }
 
 /// The block with the pointer of template `i`, from 0 to 15, set.
-pub fn with_pointer(block: &[u8; 512], i: usize, pointer: u32) -> [u8; 512]
+pub fn with_pointer(block: &[u8; BLOCK_LEN], i: usize, pointer: u32) -> [u8; BLOCK_LEN]
     requires { i < 16 }
     ensures { result ≡ with_pointer block.now i pointer }
 {
@@ -108,7 +103,7 @@ pub fn slot_start(i: usize) -> usize
 }
 
 /// The root of file system `i`, from 0 to 31, with its type; the slot is empty where the block is 0.
-pub fn root_slot(block: &[u8; 512], i: usize) -> Pair
+pub fn root_slot(block: &[u8; BLOCK_LEN], i: usize) -> Pair
     requires { i < 32 }
     ensures { numbers_of_pair result ≡ slot block.now i }
 {
@@ -120,7 +115,7 @@ pub fn root_slot(block: &[u8; 512], i: usize) -> Pair
 }
 
 /// The block with the root of file system `i`, from 0 to 31, set.
-pub fn with_root_slot(block: &[u8; 512], i: usize, root: Pair) -> [u8; 512]
+pub fn with_root_slot(block: &[u8; BLOCK_LEN], i: usize, root: Pair) -> [u8; BLOCK_LEN]
     requires { i < 32 }
     ensures { result ≡ with_slot block.now i (numbers_of_pair root) }
 {

@@ -12,6 +12,7 @@ use crate::template::Template;
 use arrayvec::ArrayVec;
 use std::alloc::{AllocError, Global};
 use std::marker::Model;
+use store_types::BLOCK_LEN;
 use udf_run::{Pair, ReadSet, constant_size, owns, owns_tracked, size};
 use udf_verify::Role;
 
@@ -114,7 +115,7 @@ impl Table {
 
     /// Leaves in `out` the blocks that a block of an installed type points to, each with its type, in the order of its
     /// owns program, whatever stood there.
-    pub fn owns(&self, ty: u32, block: &[u8; 512], out: &mut ArrayVec<Pair, 128>)
+    pub fn owns(&self, ty: u32, block: &[u8; BLOCK_LEN], out: &mut ArrayVec<Pair, 128>)
         requires { IsTrue ((table_types self.now).installed ty) }
         ensures { map numbers_of_pair out.new.items ≡ (table_types self.now).owned ty block.now }
     {
@@ -128,7 +129,12 @@ impl Table {
     }
 
     /// The same, and which chunks of the block decide it.
-    pub fn owns_tracked(&self, ty: u32, block: &[u8; 512], out: &mut ArrayVec<Pair, 128>) -> ReadSet
+    pub fn owns_tracked(
+        &self,
+        ty: u32,
+        block: &[u8; BLOCK_LEN],
+        out: &mut ArrayVec<Pair, 128>,
+    ) -> ReadSet
         requires { IsTrue ((table_types self.now).installed ty) }
         ensures pairs { map numbers_of_pair out.new.items ≡ (table_types self.now).owned ty block.now }
         ensures reads { DecidesOwned (table_types self.now) ty block.now result.chunks }
@@ -148,7 +154,7 @@ impl Table {
         }
         match self.get(ty) {
             Some(template) => match constant_size(template.size()) {
-                Some(size) => size == 512,
+                Some(size) => usize::from(size) == BLOCK_LEN,
                 None => false,
             },
             None => false,
@@ -156,13 +162,13 @@ impl Table {
     }
 
     /// From which byte on a block of an installed type is zero, at most 512.
-    pub fn size(&self, ty: u32, block: &[u8; 512]) -> u16
+    pub fn size(&self, ty: u32, block: &[u8; BLOCK_LEN]) -> u16
         requires { IsTrue ((table_types self.now).installed ty) }
         ensures value { result ≡ (table_types self.now).size ty block.now }
         ensures small { result ≤ 512 }
     {
         if is_leaf(ty) {
-            return 512;
+            return BLOCK_LEN as u16;
         }
         match self.get(ty) {
             Some(template) => size(template.size(), block),

@@ -9,8 +9,8 @@ use Rattle.xn_model.specs.Calls.{kind_of, make_root_of, root_of}
 use Rattle.xn_model.specs.Lives.{StoreState}
 use Rattle.xn_model.specs.Results.{Gives}
 use Rattle.xn_model.specs.Types.{Types}
-use Rattle.xn_model.specs.declared.refusal.Refusal.{Refusal}
-use Rattle.xn_model.specs.declared.refusal.Refusal.TheVariants.{RootTaken}
+use Rattle.store_types.specs.declared.refusal.Refusal.{Refusal}
+use Rattle.store_types.specs.declared.refusal.Refusal.TheVariants.{RootTaken}
 use Rattle.treefs_format.specs.Inodes.{inode_bytes, mode_of}
 use Rattle.treefs_format.specs.Roots.{root_content}
 use Rattle.treefs_format.specs.declared.fields.Fields.{Fields}

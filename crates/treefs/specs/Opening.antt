@@ -7,7 +7,7 @@ use Rattle.std.specs.Int.{from_bool}
 use Rattle.edit_list.specs.declared.fs.Fs.{Fs}
 use Rattle.xn_model.specs.Calls.{kind_of, root_of}
 use Rattle.xn_model.specs.Lives.{StoreState}
-use Rattle.xn_model.specs.declared.refusal.Refusal.{Refusal}
+use Rattle.store_types.specs.declared.refusal.Refusal.{Refusal}
 use Rattle.treefs_format.specs.Inodes.{content_of}
 use Rattle.treefs_format.specs.Roots.{is_marked}
 use Rattle.treefs_model.specs.Acts.{content_act}

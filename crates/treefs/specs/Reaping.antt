@@ -14,7 +14,7 @@ use Rattle.xn_model.specs.Calls.{Patch, read_of}
 use Rattle.xn_model.specs.Lists.{has_number, put}
 use Rattle.xn_model.specs.Lives.{StoreState}
 use Rattle.xn_model.specs.Types.{Types}
-use Rattle.xn_model.specs.declared.refusal.Refusal.{Refusal}
+use Rattle.store_types.specs.declared.refusal.Refusal.{Refusal}
 use Rattle.treefs_format.specs.Paths.{last_beside, place_in_tree}
 use Rattle.treefs_format.specs.Roots.{leaf_of_inode}
 use Rattle.treefs_model.specs.Acts.{Act}

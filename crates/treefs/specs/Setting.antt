@@ -4,7 +4,7 @@
 use Rattle.std.specs.Prelude.{◌≡◌, ◌⊎◌, ℕ, ℤ, true, [], ◌∷◌, length, Result, Ok, Err, MatchResult, if◌then◌else◌}
 use Rattle.xn_model.specs.Types.{Types}
 use Rattle.xn_model.specs.Lives.{StoreState}
-use Rattle.xn_model.specs.declared.refusal.Refusal.TheVariants as refusal
+use Rattle.store_types.specs.declared.refusal.Refusal.TheVariants as refusal
 use Rattle.treefs_model.specs.declared.fault.Fault.{Fault}
 use Rattle.treefs_model.specs.declared.fault.Fault.TheVariants.{Full, Kernel}
 use Rattle.treefs_model.specs.Files.{and_then}

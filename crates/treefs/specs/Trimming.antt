@@ -12,7 +12,7 @@ use Rattle.xn_model.specs.Types.{Types}
 use Rattle.xn_model.specs.Lives.{StoreState}
 use Rattle.xn_model.specs.Calls.{forget_of}
 use Rattle.xn_model.specs.Results.{GivesExactly}
-use Rattle.xn_model.specs.declared.refusal.Refusal.{Refusal}
+use Rattle.store_types.specs.declared.refusal.Refusal.{Refusal}
 use Rattle.treefs_model.specs.declared.fault.Fault.{Fault}
 use Rattle.treefs_model.specs.declared.fault.Fault.TheVariants.{Full}
 use Rattle.treefs_format.specs.declared.kind.Kind.{Kind}

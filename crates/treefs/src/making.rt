@@ -8,20 +8,18 @@ use crate::beginning::begin_one;
 use crate::block_types::BlockTypes;
 use edit_list::Fs;
 use std::alloc::{AllocError, Global};
+use store_types::{BLOCK_LEN, Refusal};
 use treefs_edits::{Act, Memory, Planned, Start, Tree, forget_all, kinds};
 use treefs_format::inodes::new_inode;
 use treefs_format::roots::root_content;
+use treefs_format::types::LEAF_TYPE;
 use treefs_format::{Fields, Kind};
 use treefs_lookup::pointer_at;
 use treefs_model::Fault;
-use xn_model::Refusal;
 use xn_state::Store;
 
 /// The byte of inode 0 at which the pointer to inode 1 begins.
 pub const FIRST_POINTER: u16 = 48;
-
-/// The type of leaves.
-const LEAF: u8 = 2;
 
 /// Inode 1 is attached to inode 0.
 #[derive(Clone, Copy, Debug)]
@@ -71,7 +69,7 @@ fn root_fields(types: BlockTypes) -> Fields
 }
 
 /// The block of a new inode 0.
-fn root_block(types: BlockTypes, key: &[u8; 16]) -> [u8; 512]
+fn root_block(types: BlockTypes, key: &[u8; 16]) -> [u8; BLOCK_LEN]
     ensures { result ≡ root_bytes types key.now }
 {
     new_inode(&root_fields(types), &root_content(key, false))
@@ -82,7 +80,7 @@ fn first_fields(node_type: u8, time: i64) -> Fields
     ensures { result ≡ first_fields node_type time }
 {
     Fields {
-        leaf_type: LEAF,
+        leaf_type: LEAF_TYPE,
         node_type,
         mode: Kind::Directory.mode(0o755),
         links: 1,
@@ -97,7 +95,7 @@ fn first_fields(node_type: u8, time: i64) -> Fields
 }
 
 /// The block of a new inode 1.
-fn first_block(node_type: u8, time: i64) -> [u8; 512]
+fn first_block(node_type: u8, time: i64) -> [u8; BLOCK_LEN]
     ensures { result ≡ inode_bytes (first_fields node_type time) [] }
 {
     new_inode(&first_fields(node_type, time), &[])

@@ -1,6 +1,7 @@
 // Inodes are freed whose pointers stand in one block.
 
 use arrayvec::ArrayVec;
+use store_types::BLOCK_LEN;
 
 /// An inode that is to be freed.
 #[derive(Clone, Copy, Debug, Default)]
@@ -21,5 +22,5 @@ pub struct ReapPlan {
     /// The inodes, rising.
     pub freed: ArrayVec<Freed, 127>,
     /// The bytes of the block from then on.
-    pub bytes: [u8; 512],
+    pub bytes: [u8; BLOCK_LEN],
 }

@@ -16,6 +16,7 @@ use crate::trimming::trim_first;
 use arrayvec::ArrayVec;
 use edit_list::{Edit, Fs, Patch};
 use std::alloc::{AllocError, Global};
+use store_types::BLOCK_LEN;
 use treefs_byte_plans::Kept;
 use treefs_edits::fronts::{behind, front};
 use treefs_edits::{Act, Memory, Planned, Start, Touched, Tree, carry_out, has_room};
@@ -71,7 +72,7 @@ fn last_offset(freed: &[Freed]) -> u16
 }
 
 /// The patch that writes the bytes of a block from the first of some pointers to the last.
-fn freed_patch(alloc: Global, freed: &[Freed], bytes: &[u8; 512]) -> Result<Patch, AllocError>
+fn freed_patch(alloc: Global, freed: &[Freed], bytes: &[u8; BLOCK_LEN]) -> Result<Patch, AllocError>
     ensures { IfOk result (λ patch. patch ≡ freed_patch freed.now bytes.now) }
 {
     let first = first_offset(freed);
@@ -177,7 +178,7 @@ fn has_number(numbers: &[u32], number: u32) -> bool
 }
 
 /// Sets a pointer of a block to 0.
-fn clear_pointer(bytes: &mut [u8; 512], offset: u16)
+fn clear_pointer(bytes: &mut [u8; BLOCK_LEN], offset: u16)
     requires { offset + 4 ≤ 512 }
     ensures { bytes.new ≡ put bytes.old offset (zeros 4) }
 {
@@ -186,12 +187,12 @@ fn clear_pointer(bytes: &mut [u8; 512], offset: u16)
 }
 
 /// The newest bytes of a block; zeros of one that may not be read.
-fn newest_bytes<S: Store>(store: &S, fs: Fs, block: u32) -> [u8; 512]
+fn newest_bytes<S: Store>(store: &S, fs: Fs, block: u32) -> [u8; BLOCK_LEN]
     ensures { result ≡ bytes_or_zeros (read_of (S.state_of store.now) fs.number block) }
 {
     match store.read(fs, block) {
         Ok(bytes) => *bytes,
-        Err(_) => [0; 512],
+        Err(_) => [0; BLOCK_LEN],
     }
 }
 
@@ -202,7 +203,7 @@ fn free_at<S: Store>(
     numbers: &[u32],
     leaf: u32,
     freed: &mut ArrayVec<Freed, 127>,
-    bytes: &mut [u8; 512],
+    bytes: &mut [u8; BLOCK_LEN],
 )
     requires there { leaf < leaf_count }
     requires room { length freed.old.items < 127 }

@@ -4,14 +4,12 @@ ghost use Rattle.std.specs.Prelude.{◌≡◌, ◌∷◌, ◌<◌, Ok, vec_len};
 ghost use Rattle.treefs.specs.WritingTimes.{WritesOne, WritesTimes, times_planned};
 
 use std::alloc::Global;
+use store_types::MAX_PENDING_IN_BLOCK;
 use treefs_byte_plans::AttributesPlan;
 use treefs_edits::{Touched, Tree, carry_out};
 use treefs_lookup::find_inode;
 use treefs_model::Fault;
 use xn_state::Store;
-
-/// How many entries the store takes in a block.
-const MOST_IN_BLOCK: u32 = 64;
 
 /// What it takes to write the times of an inode; nothing where it is not there any more. The fault is `Full` where its block has 64 pending entries.
 fn plan_times<S: Store>(
@@ -23,7 +21,7 @@ fn plan_times<S: Store>(
 {
     match find_inode(store, tree.fs, tree.top, touch.number) {
         Ok(found) => {
-            if store.pending_in(found.block) < MOST_IN_BLOCK {
+            if (store.pending_in(found.block) as usize) < MAX_PENDING_IN_BLOCK {
                 Ok(Some(AttributesPlan {
                     block: found.block,
                     mode: None,

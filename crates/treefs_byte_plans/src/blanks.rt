@@ -10,7 +10,7 @@ use crate::truncates::{has_bytes_behind, push_zeros};
 use std::alloc::{AllocError, Global};
 use treefs_edits::{Act, Memory, Planned, Start, Tree, has_room};
 use treefs_format::inodes::{CONTENT, CONTENT_LEN};
-use treefs_format::sizes::GREATEST_SIZE;
+use treefs_format::sizes::{GREATEST_SIZE, LEAF_LEN};
 use treefs_lookup::{is_blank_past, leaf_block};
 use treefs_model::Fault;
 use xn_state::Store;
@@ -36,7 +36,7 @@ fn has_tail<S: Store>(store: &S, tree: Tree, inode: u32, size: u64) -> bool
 {
     (CONTENT_LEN as u64) < size
         && size < GREATEST_SIZE
-        && size % 512 != 0
+        && size % LEAF_LEN != 0
         && !is_blank_past(store, tree.fs, inode, size)
 }
 
@@ -56,7 +56,7 @@ fn plan_tail<S: Store>(
     }
     Ok(Some(BlankPlan {
         block: leaf,
-        offset: (size % 512) as u16,
+        offset: (size % LEAF_LEN) as u16,
         behind: Some(inode),
     }))
 }
@@ -82,6 +82,6 @@ pub fn plan_blank<S: Store>(
     if !has_tail(store, tree, inode, size) {
         return Ok(None);
     }
-    let leaf = leaf_block(store, tree.fs, inode, (size / 512) as u32);
+    let leaf = leaf_block(store, tree.fs, inode, (size / LEAF_LEN) as u32);
     plan_tail(store, tree, memory, inode, leaf, size)
 }

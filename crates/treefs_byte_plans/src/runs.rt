@@ -10,13 +10,12 @@ ghost use Rattle.treefs_lookup.specs.Readable.{readable};
 use crate::fields::{risen, times_now};
 use crate::run_plan::RunPlan;
 use edit_list::Fs;
+use store_types::MAX_PENDING;
 use treefs_edits::{Memory, Tree, has_room};
+use treefs_format::sizes::LEAF_LEN;
 use treefs_lookup::{Found, Reach, find_leaf, leaf_block, leaves_beside};
 use treefs_model::Fault;
 use xn_state::Store;
-
-/// How many entries of a file system may be pending.
-const MOST_PENDING: usize = 4096;
 
 /// Of many leaves at least so many are written at once.
 const FEW_LEAVES: u32 = 64;
@@ -28,14 +27,14 @@ fn most_leaves(leaf: u32, bytes: u64) -> u32
     ensures within { leaf + result ≤ leaf_count }
     ensures few { result ≤ 127 }
 {
-    u64::from(leaves_beside(leaf)).min(bytes.div_ceil(512)) as u32
+    u64::from(leaves_beside(leaf)).min(bytes.div_ceil(LEAF_LEN)) as u32
 }
 
 /// How many leaves the entries make room for that may still come to be pending. A leaf takes one, and 16 of them one more.
 fn leaves_with_room<S: Store>(store: &S, fs: Fs, touched: usize) -> u32
     ensures { result ≡ leaves_with_room (S.state_of store.now) fs.number touched }
 {
-    let free = MOST_PENDING
+    let free = (MAX_PENDING as usize)
         .saturating_sub(store.pending(fs) as usize)
         .saturating_sub(touched)
         .saturating_sub(16);
@@ -71,14 +70,14 @@ fn run_taken(at: u64, bytes: usize, count: u32) -> usize
     ensures taken { result ≡ run_taken at bytes count }
     ensures few { result ≤ 512 * count }
 {
-    bytes.min((512 * u64::from(count)).saturating_sub(at % 512) as usize)
+    bytes.min((LEAF_LEN * u64::from(count)).saturating_sub(at % LEAF_LEN) as usize)
 }
 
 /// Whether a size ends in the middle of a leaf.
 fn ends_in(size: u64, leaf: u64) -> bool
     ensures { result ≡ ends_in size leaf }
 {
-    size / 512 == leaf && size % 512 != 0
+    size / LEAF_LEN == leaf && size % LEAF_LEN != 0
 }
 
 /// What a run of so many leaves takes. `owner` tells how far the path to the first one leads.
@@ -96,7 +95,7 @@ fn planned_run(
     ensures planned { result ≡ planned_run tree memory.now file.now owner at bytes count }
     ensures within { IsRun result }
 {
-    let leaf = (at / 512) as u32;
+    let leaf = (at / LEAF_LEN) as u32;
     let taken = run_taken(at, bytes, count);
     let size = risen(file.fields.size, at + taken as u64);
     let last = (u64::from(leaf) + u64::from(count)).saturating_sub(1);
@@ -131,7 +130,7 @@ fn run_in_room<S: Store>(
     ensures planned { result ≡ run_in_room (S.state_of store.now) tree memory.now file.now at bytes count }
     ensures within { IfOk result IsRun }
 {
-    let owner = find_leaf(store, tree.fs, file.block, (at / 512) as u32);
+    let owner = find_leaf(store, tree.fs, file.block, (at / LEAF_LEN) as u32);
     let edits = count + count / 16 + 12;
     let parts = [(file.block, 3), (owner.block, count / 16 + 2)];
     if !has_room(store, tree.fs, memory.touched.len(), edits, &parts) {
@@ -155,8 +154,8 @@ pub(crate) fn plan_run<S: Store>(
     ensures planned { result ≡ run_planned (S.state_of store.now) tree memory.now file.now at bytes }
     ensures within { IfOk result IsRun }
 {
-    let leaf = (at / 512) as u32;
-    let most = most_leaves(leaf, at % 512 + bytes as u64);
+    let leaf = (at / LEAF_LEN) as u32;
+    let most = most_leaves(leaf, at % LEAF_LEN + bytes as u64);
     let room = leaves_with_room(store, tree.fs, memory.touched.len());
     let fit = fitting(most, room)?;
     let count = missing_count(store, tree.fs, file.block, leaf, fit);

@@ -19,7 +19,7 @@ use edit_list::Patch;
 use std::alloc::{AllocError, Global};
 use treefs_edits::{Act, Memory, Planned, Start, Tree, has_room, kinds};
 use treefs_format::inodes::{CONTENT, CONTENT_LEN};
-use treefs_format::sizes::GREATEST_SIZE;
+use treefs_format::sizes::{GREATEST_SIZE, LEAF_LEN};
 use treefs_lookup::{Found, find_file, leaf_block, part_left};
 use treefs_model::Fault;
 use xn_state::Store;
@@ -118,7 +118,7 @@ fn plan_leaf<'a, S: Store>(
     }
     Ok(WriteStep::Leaf(LeafPlan {
         leaf,
-        offset: (at % 512) as u16,
+        offset: (at % LEAF_LEN) as u16,
         bytes,
         inode: file.block,
         size: risen(file.fields.size, at + bytes.len() as u64),
@@ -140,7 +140,7 @@ fn plan_leaves<'a, S: Store>(
         (leaf_block (readable (S.state_of store.now) tree.fs.number) file.now.block (at / 512)) at bytes.now }
     ensures within { IfOk result IsWithin }
 {
-    let leaf = leaf_block(store, tree.fs, file.block, (at / 512) as u32);
+    let leaf = leaf_block(store, tree.fs, file.block, (at / LEAF_LEN) as u32);
     if leaf == 0 {
         return match plan_run(store, tree, memory, file, at, bytes.len()) {
             Ok(plan) => Ok(WriteStep::Run(plan)),

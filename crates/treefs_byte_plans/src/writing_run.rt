@@ -8,17 +8,14 @@ use crate::fields::{raise_size, size_patch};
 use crate::run_plan::RunPlan;
 use arrayvec::ArrayVec;
 use std::alloc::{AllocError, Global};
+use store_types::BLOCK_LEN;
 use treefs_edits::fronts::{behind, front};
 use treefs_edits::missing::missing_path;
 use treefs_edits::nodes::{last_or_owner, push_node_acts, push_node_starts};
 use treefs_edits::{Act, Planned, Start, kinds};
+use treefs_format::sizes::LEAF_LEN;
+use treefs_format::types::LEAF_TYPE;
 use treefs_lookup::pointer_offset;
-
-/// The type of leaves.
-const LEAF: u8 = 2;
-
-/// How many bytes a leaf has.
-const LEAF_LEN: usize = 512;
 
 /// How many pointers to leaves stand in an inode.
 const OWN_LEAVES: u32 = 16;
@@ -37,11 +34,11 @@ pub struct WritingRun<'a> {
 }
 
 /// A leaf with some bytes from a place on, and zeros.
-fn leaf_of(place: usize, bytes: &[u8]) -> [u8; 512]
+fn leaf_of(place: usize, bytes: &[u8]) -> [u8; BLOCK_LEN]
     requires { place + length bytes.now ≤ 512 }
     ensures { result ≡ leaf_of place bytes.now }
 {
-    let mut leaf = [0; LEAF_LEN];
+    let mut leaf = [0; BLOCK_LEN];
     leaf[place..place + bytes.len()].copy_from_slice(bytes);
     leaf
 }
@@ -61,10 +58,10 @@ fn push_leaf_starts(
     let mut rest = bytes;
     while left > 0 {
         starts.push(Start {
-            ty: u32::from(LEAF),
-            bytes: leaf_of(place, front(rest, LEAF_LEN - place)),
+            ty: u32::from(LEAF_TYPE),
+            bytes: leaf_of(place, front(rest, BLOCK_LEN - place)),
         })?;
-        rest = behind(rest, LEAF_LEN - place);
+        rest = behind(rest, BLOCK_LEN - place);
         place = 0;
         left -= 1;
     }
@@ -88,7 +85,7 @@ fn push_attach_acts(
     let mut rest = leaves;
     while left > 0 {
         let some = front(rest, POINTERS as usize);
-        acts.push(kinds::attach(alloc, holder, offset, u32::from(LEAF), some, None)?)?;
+        acts.push(kinds::attach(alloc, holder, offset, u32::from(LEAF_TYPE), some, None)?)?;
         rest = behind(rest, POINTERS as usize);
         offset += 64;
         left -= 1;
@@ -121,7 +118,7 @@ impl RunPlan {
     ) -> Result<Act, AllocError>
         ensures { IfOk result (λ act. act ≡ own_act self.now holder offset leaves.now) }
     {
-        let ty = u32::from(LEAF);
+        let ty = u32::from(LEAF_TYPE);
         let act = kinds::attach(alloc, holder, offset, ty, leaves, None)?;
         match self.size {
             Some(size) => act.with_patch(size_patch(alloc, size, self.times)?),
@@ -190,7 +187,7 @@ impl RunPlan {
             alloc,
             &mut acts,
             self.node_type,
-            LEAF,
+            LEAF_TYPE,
             self.owner,
             front(offsets.as_slice(), count),
             nodes,
@@ -209,8 +206,8 @@ impl<'a> Planned for WritingRun<'a> {
         let offsets = plan.path();
         let nodes = front(offsets.as_slice(), plan.node_count());
         let mut starts = Vec::new(alloc);
-        push_node_starts(&mut starts, plan.node_type, LEAF, nodes)?;
-        let place = (plan.at % 512) as usize;
+        push_node_starts(&mut starts, plan.node_type, LEAF_TYPE, nodes)?;
+        let place = (plan.at % LEAF_LEN) as usize;
         push_leaf_starts(&mut starts, plan.count, place, self.bytes)?;
         Ok(starts)
     }

@@ -4,7 +4,7 @@ use Rattle.xn_model.specs.Types.{Types}
 use Rattle.xn_model.specs.Lives.{StoreState}
 use Rattle.xn_model.specs.Calls.{init_of}
 use Rattle.xn_model.specs.Results.{Gives}
-use Rattle.xn_model.specs.declared.refusal.Refusal.{Refusal}
+use Rattle.store_types.specs.declared.refusal.Refusal.{Refusal}
 use Rattle.treefs_model.specs.declared.fault.Fault.{Fault}
 use Rattle.treefs_edits.specs.Plans.{Begins, Begun, Start, forgotten, start_fault}
 

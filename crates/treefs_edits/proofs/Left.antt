@@ -1,7 +1,7 @@
 -- The state that a call leaves.
 use Rattle.std.proofs.Common.{◌≡◌, Result, Ok, Err}
 use Rattle.xn_model.specs.Lives.{StoreState}
-use Rattle.xn_model.specs.declared.refusal.Refusal.{Refusal}
+use Rattle.store_types.specs.declared.refusal.Refusal.{Refusal}
 use Rattle.xn_model.specs.Results.{GivesExactly}
 use Rattle.treefs_edits.specs.Plans.{left_by}
 

@@ -9,8 +9,8 @@ use Rattle.xn_model.specs.Types.{Types}
 use Rattle.xn_model.specs.Lives.{StoreState}
 use Rattle.xn_model.specs.Calls.{forget_of, init_of}
 use Rattle.xn_model.specs.Results.{Gives}
-use Rattle.xn_model.specs.declared.refusal.Refusal.{Refusal}
-use Rattle.xn_model.specs.declared.refusal.Refusal.TheVariants as refusal
+use Rattle.store_types.specs.declared.refusal.Refusal.{Refusal}
+use Rattle.store_types.specs.declared.refusal.Refusal.TheVariants as refusal
 use Rattle.treefs_model.specs.declared.fault.Fault.{Fault}
 use Rattle.treefs_model.specs.declared.fault.Fault.TheVariants.{Kernel, NoSpace}
 use Rattle.treefs_model.specs.Acts.{Act, Ran}

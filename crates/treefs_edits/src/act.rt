@@ -7,7 +7,7 @@ ghost use Rattle.treefs_model.specs.Acts.{Made, behind_of};
 use edit_list::{Edit, EditId, Fs, Patch};
 use std::alloc::AllocError;
 use std::marker::Model;
-use xn_model::Refusal;
+use store_types::Refusal;
 use xn_state::Store;
 
 /// An edit of a block, behind all that is pending in another block when it is made.

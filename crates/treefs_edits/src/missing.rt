@@ -11,15 +11,17 @@ use arrayvec::ArrayVec;
 use std::alloc::{AllocError, Global};
 use treefs_format::nodes::new_node;
 use treefs_format::paths::{LEAVES, path};
-
-/// The type of a leaf.
-const LEAF: u8 = 2;
+use treefs_format::types::LEAF_TYPE;
 
 /// The type of the block to which a pointer leads, where these are behind it on a path to a leaf.
 fn type_before(node_type: u8, offsets: &[u16]) -> u8
     ensures { result ≡ type_before node_type offsets.now }
 {
-    if offsets.is_empty() { LEAF } else { node_type }
+    if offsets.is_empty() {
+        LEAF_TYPE
+    } else {
+        node_type
+    }
 }
 
 /// The first byte of that block, when it is begun.

@@ -8,8 +8,8 @@ use crate::runs::run;
 use crate::start::{Start, begin_all, forget_all, lacks_memory};
 use edit_list::Fs;
 use std::alloc::{AllocError, Global};
+use store_types::Refusal;
 use treefs_model::Fault;
-use xn_model::Refusal;
 use xn_state::Store;
 
 /// What a call is to do.

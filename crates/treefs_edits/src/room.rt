@@ -5,10 +5,11 @@ ghost use Rattle.std.specs.List.{list_all};
 ghost use Rattle.treefs_edits.specs.Rooms.{has_room, has_room_in};
 
 use edit_list::Fs;
+use store_types::MAX_PENDING;
 use xn_state::Store;
 
 /// How many entries of a file system and of a block are pending at most once a call is done. The store takes 4,096 and 64.
-const MOST_PENDING: usize = 4096;
+const MOST_PENDING: usize = MAX_PENDING as usize;
 
 const MOST_IN_BLOCK: u64 = 62;
 

@@ -6,7 +6,7 @@ ghost use Rattle.treefs_model.specs.Acts.{Ran};
 use crate::act::Act;
 use edit_list::Fs;
 use std::collections::VecDeque;
-use xn_model::Refusal;
+use store_types::Refusal;
 use xn_state::Store;
 
 /// Makes acts, one after another. Where one is refused, those before it stand.

@@ -5,8 +5,8 @@ ghost use Rattle.treefs_edits.specs.Plans.{Begins, LacksMemory, forgotten, start
 
 use edit_list::Fs;
 use std::alloc::{AllocError, Global};
+use store_types::{BLOCK_LEN, Refusal};
 use treefs_model::Fault;
-use xn_model::Refusal;
 use xn_state::Store;
 
 /// A block that is to be begun.
@@ -15,7 +15,7 @@ pub struct Start {
     /// Its type.
     pub ty: u32,
     /// Its first bytes, which point to nothing.
-    pub bytes: [u8; 512],
+    pub bytes: [u8; BLOCK_LEN],
 }
 
 /// Why a block is not begun: `NoSpace` where no block is free, else the kernel's refusal.

@@ -6,6 +6,7 @@ use crate::numbers::{half_at, long_at, signed_at, word_at};
 use byteorder::{ByteOrder, LittleEndian};
 use edit_list::Patch;
 use std::alloc::{AllocError, Global};
+use store_types::BLOCK_LEN;
 
 /// The fields of an inode.
 #[derive(Clone, Copy, Debug)]
@@ -38,7 +39,7 @@ impl Fields {
     ghost use Rattle.treefs_format.specs.Fields.{field_bytes, fields_of};
 
     /// Those that an inode block says.
-    pub fn read(block: &[u8; 512]) -> Fields
+    pub fn read(block: &[u8; BLOCK_LEN]) -> Fields
         ensures { result ≡ fields_of block.now }
     {
         Fields {

@@ -7,6 +7,7 @@ ghost use Rattle.treefs_format.specs.Inodes.{content_of, content_patch, inode_by
 use crate::fields::Fields;
 use edit_list::Patch;
 use std::alloc::{AllocError, Global};
+use store_types::BLOCK_LEN;
 
 /// The byte of an inode block from which on the content stands.
 pub const CONTENT: usize = 128;
@@ -16,11 +17,11 @@ pub const CONTENT_LEN: usize = 384;
 
 /// The block of a new inode, which has no pointers, with the beginning of its content; zeros follow. What is read of it is said by
 /// the law `inodes_are_read_back`.
-pub fn new_inode(fields: &Fields, head: &[u8]) -> [u8; 512]
+pub fn new_inode(fields: &Fields, head: &[u8]) -> [u8; BLOCK_LEN]
     requires { length head.now ≤ 384 }
     ensures { result ≡ inode_bytes fields.now head.now }
 {
-    let mut block = [0; 512];
+    let mut block = [0; BLOCK_LEN];
     block[..48].copy_from_slice(&fields.bytes());
     block[CONTENT..].copy_from_slice(&padded(head));
     block
@@ -37,7 +38,7 @@ fn padded(head: &[u8]) -> [u8; 384]
 }
 
 /// The first 384 bytes of the content; of a directory its bucket 0.
-pub fn content(block: &[u8; 512]) -> &[u8]
+pub fn content(block: &[u8; BLOCK_LEN]) -> &[u8]
     ensures content { result.now ≡ content_of block.now }
     ensures long { length result.now ≡ 384 }
 {

@@ -6,10 +6,11 @@ ghost use Rattle.xn_model.specs.Root.{word_at};
 ghost use Rattle.treefs_format.specs.Numbers.{number_at, signed_at};
 
 use byteorder::{ByteOrder, LittleEndian};
+use store_types::BLOCK_LEN;
 
 /// The number in two bytes.
 #[tactic(auto, unfolding(crate::specs::Numbers::number_at))]
-pub(crate) fn half_at(block: &[u8; 512], at: usize) -> u16
+pub(crate) fn half_at(block: &[u8; BLOCK_LEN], at: usize) -> u16
     requires { at + 2 ≤ 512 }
     ensures { result ≡ number_at w16 block.now at }
 {
@@ -18,7 +19,7 @@ pub(crate) fn half_at(block: &[u8; 512], at: usize) -> u16
 
 /// The number in four bytes.
 #[tactic(auto, unfolding(xn_model::specs::Root::word_at))]
-pub fn word_at(block: &[u8; 512], at: usize) -> u32
+pub fn word_at(block: &[u8; BLOCK_LEN], at: usize) -> u32
     requires { at + 4 ≤ 512 }
     ensures { result ≡ word_at block.now at }
 {
@@ -27,7 +28,7 @@ pub fn word_at(block: &[u8; 512], at: usize) -> u32
 
 /// The number in eight bytes.
 #[tactic(auto, unfolding(crate::specs::Numbers::number_at))]
-pub(crate) fn long_at(block: &[u8; 512], at: usize) -> u64
+pub(crate) fn long_at(block: &[u8; BLOCK_LEN], at: usize) -> u64
     requires { at + 8 ≤ 512 }
     ensures { result ≡ number_at w64 block.now at }
 {
@@ -35,7 +36,7 @@ pub(crate) fn long_at(block: &[u8; 512], at: usize) -> u64
 }
 
 /// The number in eight bytes, in two's complement.
-pub(crate) fn signed_at(block: &[u8; 512], at: usize) -> i64
+pub(crate) fn signed_at(block: &[u8; BLOCK_LEN], at: usize) -> i64
     requires { at + 8 ≤ 512 }
     ensures { result ≡ signed_at block.now at }
 {

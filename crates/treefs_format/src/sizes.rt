@@ -4,6 +4,10 @@ ghost use Rattle.std.specs.Prelude.{◌≡◌, ◌≤◌, ◌<◌};
 ghost use Rattle.treefs_format.specs.Leaves.{greatest_size, leaves_kept};
 
 use crate::inodes::{CONTENT, CONTENT_LEN};
+use store_types::BLOCK_LEN;
+
+/// How many bytes a leaf has.
+pub const LEAF_LEN: u64 = BLOCK_LEN as u64;
 
 /// The greatest size of a file, in bytes.
 pub const GREATEST_SIZE: u64 = 134_251_159_552;
@@ -28,7 +32,7 @@ impl Place {
         if byte < CONTENT_LEN as u64 {
             Place::InInode((CONTENT as u64 + byte) as u16)
         } else {
-            Place::InLeaf((byte / 512) as u32, (byte % 512) as u16)
+            Place::InLeaf((byte / LEAF_LEN) as u32, (byte % LEAF_LEN) as u16)
         }
     }
 }
@@ -41,6 +45,6 @@ pub fn leaves_kept(size: u64) -> u32
     if size <= CONTENT_LEN as u64 {
         0
     } else {
-        size.div_ceil(512) as u32
+        size.div_ceil(LEAF_LEN) as u32
     }
 }

@@ -6,8 +6,12 @@ ghost use Rattle.templates.specs.Reading.{template_of_bytes};
 ghost use Rattle.treefs_format.specs.Templates.{inode_template, node_template};
 
 use std::alloc::{AllocError, Global};
+use store_types::{BLOCK_LEN, DATA_TYPE};
 use templates::law::{blocks_are_templates, templates_are_read};
 use templates::{Template, TemplateFault, read_block, write_block};
+
+/// The type of leaves, which is that of data.
+pub const LEAF_TYPE: u8 = DATA_TYPE as u8;
 
 /// The start of the block that spells the template of a node. The other bytes of the block are zero.
 const NODE: [u8; 48] = [
@@ -54,11 +58,11 @@ const INODE: [u8; 96] = [
 ];
 
 /// The block that starts with these bytes; the other bytes are zero.
-fn block_of(start: &[u8]) -> [u8; 512]
+fn block_of(start: &[u8]) -> [u8; BLOCK_LEN]
     requires { length start.now ≤ 512 }
     ensures { result ≡ start.now ++ zeros (512 - length start.now) }
 {
-    let mut block = [0u8; 512];
+    let mut block = [0u8; BLOCK_LEN];
     block[..start.len()].copy_from_slice(start);
     block
 }

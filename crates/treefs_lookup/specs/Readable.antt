@@ -1,7 +1,7 @@
 -- What a file system may read.
 --     readable state fs    the bytes of each block; none of one whose read is refused
 use Rattle.std.specs.Prelude.{ℕ, List, [], Result, Ok, Err}
-use Rattle.xn_model.specs.declared.refusal.Refusal.{Refusal}
+use Rattle.store_types.specs.declared.refusal.Refusal.{Refusal}
 use Rattle.xn_model.specs.Lives.{StoreState}
 use Rattle.xn_model.specs.Calls.{read_of}
 

@@ -5,11 +5,12 @@ ghost use Rattle.treefs_lookup.specs.Readable.{readable};
 ghost use Rattle.treefs_model.specs.Reading.{pointed};
 
 use edit_list::Fs;
+use store_types::BLOCK_LEN;
 use treefs_format::pointers;
 use xn_state::Store;
 
 /// The newest bytes of a block, or `None` where the file system may not read it.
-pub fn read_block<S: Store>(store: &S, fs: Fs, block: u32) -> Option<&[u8; 512]>
+pub fn read_block<S: Store>(store: &S, fs: Fs, block: u32) -> Option<&[u8; BLOCK_LEN]>
     ensures { MatchOption result (readable (S.state_of store.now) fs.number block ≡ []) (λ bytes. readable (S.state_of store.now) fs.number block ≡ bytes.now) }
 {
     match store.read(fs, block) {

@@ -12,16 +12,14 @@ use crate::blocks::read_block;
 use crate::inodes::{Found, find_file, find_link};
 use crate::paths::leaf_block;
 use edit_list::Fs;
+use store_types::BLOCK_LEN;
 use treefs_format::inodes::{CONTENT, CONTENT_LEN};
-use treefs_format::sizes::GREATEST_SIZE;
+use treefs_format::sizes::{GREATEST_SIZE, LEAF_LEN};
 use treefs_model::Fault;
 use xn_state::Store;
 
-/// How many bytes a leaf has.
-const LEAF_LEN: u64 = 512;
-
 /// Copies bytes from one on.
-fn copy_bytes(bytes: &[u8; 512], at: usize, part: &mut [u8])
+fn copy_bytes(bytes: &[u8; BLOCK_LEN], at: usize, part: &mut [u8])
     requires { at + length part.old ≤ 512 }
     ensures { part.new ≡ map (slice_index bytes.now) (range_with_len at (length part.old)) }
 {

@@ -13,6 +13,7 @@ use crate::inodes::Found;
 use crate::leaves::leaf_behind;
 use crate::paths::find_leaf;
 use edit_list::Fs;
+use store_types::BLOCK_LEN;
 use treefs_format::Kind;
 use treefs_format::paths::{LEAVES, first_leaf, height};
 use treefs_format::sizes::{GREATEST_SIZE, leaves_kept};
@@ -69,7 +70,7 @@ pub fn is_blank_past<S: Store>(store: &S, fs: Fs, inode: u32, size: u64) -> bool
     requires { size < greatest_size }
     ensures { result ≡ blank (bytes_past (readable (S.state_of store.now) fs.number) inode size) }
 {
-    let mut part = [0u8; 512];
+    let mut part = [0u8; BLOCK_LEN];
     let length = part_left(size) as usize;
     copy_part(store, fs, inode, size, &mut part[..length]);
     are_zeros(&part[..length])

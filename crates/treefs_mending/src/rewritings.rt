@@ -1,7 +1,7 @@
 // Buckets with dead records are rewritten without them.
 
 ghost use Rattle.std.specs.Prelude.{◌≡◌, ◌≤◌, ◌++◌, IfErr, IfOk, Ok, Err, MatchResult, ◌⊎◌, length};
-ghost use Rattle.xn_model.specs.declared.refusal.Refusal.TheVariants as refusal;
+ghost use Rattle.store_types.specs.declared.refusal.Refusal.TheVariants as refusal;
 ghost use Rattle.treefs_lookup.specs.Readable.{readable};
 ghost use Rattle.treefs_mending.specs.InRoom.{DoesActs};
 ghost use Rattle.treefs_mending.specs.Rewritings.{all_rewritings, calm, has_dead, rewriting_at, rewritings, rewritings_planned};

@@ -8,7 +8,7 @@ use Rattle.std.proofs.lemmas.List.Elements.{Contains-append_right, Contains-push
 use Rattle.xn_model.specs.Types.{Types, claims, named_once}
 use Rattle.xn_model.specs.Lives.{BlockState, Life, Lives, StoreState, life_at, current}
 use Rattle.xn_model.specs.Calls.{Edit, accepts, edit_tests, edited, life_bytes, may_add, patched, propose_at, propose_of}
-use Rattle.xn_model.specs.declared.refusal.Refusal.{Refusal}
+use Rattle.store_types.specs.declared.refusal.Refusal.{Refusal}
 use Rattle.xn_model.specs.Results.{Gives}
 use Rattle.xn_model.specs.Rules.{IsConsistent}
 use Rattle.xn_model.proofs.ForCallers.{accept, accepted, accepted_other, addable, all_at, each_at, each_back, each_forth, own_then, unless_ok, Contains-cons, Contains-head, Contains-none, Contains-tail}

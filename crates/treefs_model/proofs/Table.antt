@@ -3,8 +3,8 @@ use Rattle.std.proofs.Common.{◌≡◌, ℕ, ◌⊎◌, List, [], ◌∷◌, Op
 use Rattle.std.specs.Prelude.{◌≢◌, Contains}
 use Rattle.std.proofs.lemmas.Option.{same_Some}
 use Rattle.xn_model.specs.Types.{Types}
-use Rattle.xn_model.specs.declared.status.Status.{Status}
-use Rattle.xn_model.specs.declared.status.Status.TheVariants.{Fresh, Owned, Dropped}
+use Rattle.store_types.specs.declared.status.Status.{Status}
+use Rattle.store_types.specs.declared.status.Status.TheVariants.{Fresh, Owned, Dropped}
 use Rattle.xn_model.specs.Lives.{BlockState, Life, Lives, StoreState, life_at, newest, bytes_of}
 use Rattle.xn_model.specs.Rules.{BelongsTo, IsBy, IsConsistent, NamedIn}
 use Rattle.ffs_model.specs.Cuts.{Choice, IsCut, chosen, latest, seen, seen_at}

@@ -11,7 +11,7 @@ use Rattle.xn_model.specs.Lives.{StoreState}
 use Rattle.xn_model.specs.Calls.{Edit, Patch, propose_of}
 use Rattle.xn_model.specs.PendingIn.{newest_entry_of}
 use Rattle.xn_model.specs.Results.{Gives}
-use Rattle.xn_model.specs.declared.refusal.Refusal.{Refusal}
+use Rattle.store_types.specs.declared.refusal.Refusal.{Refusal}
 use Rattle.treefs_format.specs.Fields.{changes_patch}
 use Rattle.treefs_format.specs.Inodes.{content_patch}
 use Rattle.treefs_format.specs.Nodes.{pointers_patch}

@@ -4,7 +4,7 @@
 --     TakesIt, LeavesIt          a cut after the edit that takes it, and one that does not
 --     Edited                     each cut after it is one of the two, and what it did to the newest states
 use Rattle.std.specs.Prelude.{◌≡◌, ◌≢◌, ◌⊎◌, ℕ, List, Option, None, Some, Contains, ⊤}
-use Rattle.xn_model.specs.declared.status.Status.TheVariants.{Fresh}
+use Rattle.store_types.specs.declared.status.Status.TheVariants.{Fresh}
 use Rattle.xn_model.specs.Types.{Types}
 use Rattle.xn_model.specs.Lives.{BlockState, Life, Lives, life_at}
 use Rattle.xn_model.specs.Calls.{patched}

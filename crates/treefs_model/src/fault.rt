@@ -1,6 +1,6 @@
 // Why a call of a file system of trees is refused.
 
-use xn_model::Refusal;
+use store_types::Refusal;
 
 /// Why a call is refused.
 #[derive(Clone, Copy, Debug, PartialEq, Eq)]

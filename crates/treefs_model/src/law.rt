@@ -17,7 +17,7 @@ ghost use Rattle.treefs_format.specs.Records.{Entry, Record, entries_of, records
 ghost use Rattle.treefs_model.specs.Trees.{Bucket, counted, has_name, is_bare, live_count, records_at, tree_pointer, tree_shape};
 ghost use Rattle.treefs_model.specs.Acts.{Act};
 ghost use Rattle.treefs_model.specs.Acts.{Made, Ran};
-ghost use Rattle.xn_model.specs.declared.refusal.Refusal.{Refusal};
+ghost use Rattle.store_types.specs.declared.refusal.Refusal.{Refusal};
 ghost use Rattle.treefs_model.specs.Tables.{IsPointed, MovesNone, PassesBy, ReadsTypes, StaysAt};
 ghost use Rattle.xn_model.specs.Calls.{init_of};
 ghost use Rattle.treefs_model.specs.Single.{IsSingle, KeepsSingle, Records};

@@ -10,7 +10,7 @@ use Rattle.xn_model.specs.Calls.{pending_of}
 use Rattle.xn_model.specs.Lives.{StoreState}
 use Rattle.xn_model.specs.Rules.{IsIdle}
 use Rattle.xn_model.specs.Types.{Types}
-use Rattle.xn_model.specs.declared.refusal.Refusal.{Refusal}
+use Rattle.store_types.specs.declared.refusal.Refusal.{Refusal}
 use Rattle.treefs_model.specs.declared.fault.Fault.{Fault}
 use Rattle.treefs_model.specs.declared.fault.Fault.TheVariants.{Kernel}
 use Rattle.treefs_edits.specs.Plans.{Does}

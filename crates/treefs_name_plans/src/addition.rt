@@ -1,6 +1,8 @@
 // Where a record goes that is made in a directory.
 
 /// A bucket that is made, with the nodes that its path lacks.
+use store_types::BLOCK_LEN;
+
 #[derive(Clone, Copy, Debug)]
 pub struct NewBucket {
     /// The last block that stands on its path.
@@ -21,7 +23,7 @@ pub struct OldBucket {
     /// Whether it stands in an inode block, from byte 128 on; else it is a whole block.
     pub in_inode: bool,
     /// The bytes of the block.
-    pub bytes: [u8; 512],
+    pub bytes: [u8; BLOCK_LEN],
     /// The byte of the block at which the new record begins.
     pub offset: u16,
 }

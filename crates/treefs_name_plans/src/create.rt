@@ -9,6 +9,7 @@ use crate::commit::{commit_in_room, find_new_number};
 use crate::naming::Naming;
 use crate::new_names::{find_addition, find_free_name};
 use crate::new_plan::NewPlan;
+use store_types::BLOCK_LEN;
 use treefs_edits::{Memory, Tree, has_room};
 use treefs_model::Fault;
 use xn_state::Store;
@@ -39,7 +40,7 @@ fn new_in_room<S: Store>(
     memory: &Memory,
     number: u32,
     directory: u32,
-    inode: &[u8; 512],
+    inode: &[u8; BLOCK_LEN],
     addition: Addition,
 ) -> Result<NewPlan, Fault>
     requires { number ≤ leaf_count }
@@ -61,7 +62,7 @@ pub fn plan_new<S: Store>(
     memory: &Memory,
     directory: u32,
     name: &[u8],
-    inode: &[u8; 512],
+    inode: &[u8; BLOCK_LEN],
 ) -> Result<NewPlan, Fault>
     ensures planned { IsNewPlanned (S.state_of store.now) tree memory.now directory name.now inode.now result }
     ensures short { OnOk result (length name.now ≤ 255) }

@@ -12,6 +12,7 @@ ghost use Rattle.treefs_name_plans.specs.NewNames.{IsWithinBlocks, addition_at, 
 
 use crate::addition::{Addition, NewBucket, OldBucket};
 use crate::slots::narrow;
+use store_types::BLOCK_LEN;
 use treefs_edits::Tree;
 use treefs_format::inodes::CONTENT;
 use treefs_format::is_name;
@@ -102,7 +103,7 @@ fn find_place_in<S: Store>(
 }
 
 /// The bytes of a block that may be read; of another zeros.
-fn bytes_of<S: Store>(store: &S, tree: Tree, block: u32) -> [u8; 512]
+fn bytes_of<S: Store>(store: &S, tree: Tree, block: u32) -> [u8; BLOCK_LEN]
     requires { 0 < length (readable (S.state_of store.now) tree.fs.number block) }
     ensures { result ≡ readable (S.state_of store.now) tree.fs.number block }
 {

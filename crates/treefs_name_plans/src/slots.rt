@@ -7,6 +7,7 @@ ghost use Rattle.treefs_lookup.specs.declared.names.Slot.{Slot};
 ghost use Rattle.treefs_name_plans.specs.Ends.{IsWithin};
 
 use edit_list::Fs;
+use store_types::BLOCK_LEN;
 use treefs_lookup::read_block;
 use xn_state::Store;
 
@@ -25,7 +26,7 @@ fn is_short<S: Store>(store: &S, fs: Fs, block: u32)
 }
 
 /// A block has 512 bytes.
-fn is_block(bytes: &[u8; 512])
+fn is_block(bytes: &[u8; BLOCK_LEN])
     ensures { length bytes.now ≡ 512 }
 {
     let _ = bytes;

@@ -1,6 +1,6 @@
 -- A step of a path that leads somewhere.
 use Rattle.std.proofs.Common.{◌≡◌, ◌⊎◌, ℕ, ◌<◌, List, Bool, Result, Ok, Err, inl, inr, length, sym}
-use Rattle.xn_model.specs.declared.refusal.Refusal.TheVariants.{NoMemory}
+use Rattle.store_types.specs.declared.refusal.Refusal.TheVariants.{NoMemory}
 use Rattle.treefs_model.specs.declared.fault.Fault.{Fault}
 use Rattle.treefs_model.specs.declared.fault.Fault.TheVariants.{Kernel}
 use Rattle.treefs_paths.specs.Ways.{Answers, Leads, Way, goes, stepped, stops}

@@ -1,7 +1,7 @@
 // Where a path leads.
 
 ghost use Rattle.std.specs.Prelude.{◌≡◌, ◌⊎◌, Err};
-ghost use Rattle.xn_model.specs.declared.refusal.Refusal.TheVariants.{NoMemory};
+ghost use Rattle.store_types.specs.declared.refusal.Refusal.TheVariants.{NoMemory};
 ghost use Rattle.treefs_lookup.specs.Readable.{readable};
 ghost use Rattle.treefs_model.specs.declared.fault.Fault.TheVariants.{Kernel};
 ghost use Rattle.treefs_paths.specs.Ways.{Leads, first_way};

@@ -8,6 +8,7 @@ use crate::volumes::{Made, make_volume};
 use crate::words::{Asked, Change, Look, Make, Verb, read_line};
 use std::alloc::{AllocError, Global};
 use std::thread::Threads;
+use store_types::BLOCK_LEN;
 use treefs::{Attributes, Volume};
 use treefs_byte_plans::{Attributes as Settings, Owner};
 use treefs_check::check;
@@ -337,7 +338,7 @@ fn look<S: Store>(
             ));
         }
         Look::Readlink => {
-            let mut bytes = [0u8; 512];
+            let mut bytes = [0u8; BLOCK_LEN];
             let answer = read_link(store, fs, top, first, 0, &mut bytes);
             told.read(&bytes, answer);
         }

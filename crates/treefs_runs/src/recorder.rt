@@ -7,9 +7,9 @@ use crate::text::{Text, without_end};
 use edit_list::{Edit, EditId, Fs};
 use std::alloc::Global;
 use std::marker::Model;
+use store_types::{BLOCK_LEN, Refusal};
 use templates::Template;
 use world::{Event, Reply, Running};
-use xn_model::Refusal;
 use xn_state::Store;
 
 /// A store, and the lines of the calls that changed it since they were last taken.
@@ -105,7 +105,7 @@ impl Text {
         &mut self,
         fs: Fs,
         ty: u32,
-        bytes: &[u8; 512],
+        bytes: &[u8; BLOCK_LEN],
         answer: &Result<(u32, EditId), Refusal>,
     ) {
         self.number("  init ", u32::from(fs.number()));
@@ -170,7 +170,7 @@ impl<S: Store> Store for Recorder<S> {
 
     ghost with_state = { S.with_state };
 
-    fn init(&mut self, fs: Fs, ty: u32, bytes: &[u8; 512]) -> Result<(u32, EditId), Refusal> {
+    fn init(&mut self, fs: Fs, ty: u32, bytes: &[u8; BLOCK_LEN]) -> Result<(u32, EditId), Refusal> {
         let made = self.store.init(fs, ty, bytes);
         self.lines.init_line(fs, ty, bytes, &made);
         made
@@ -194,7 +194,7 @@ impl<S: Store> Store for Recorder<S> {
         done
     }
 
-    fn read(&self, fs: Fs, block: u32) -> Result<&[u8; 512], Refusal> {
+    fn read(&self, fs: Fs, block: u32) -> Result<&[u8; BLOCK_LEN], Refusal> {
         self.store.read(fs, block)
     }
 

@@ -2,8 +2,8 @@
 
 use std::alloc::{AllocError, Global};
 use std::fmt::Write;
+use store_types::Refusal;
 use treefs_model::Fault;
-use xn_model::Refusal;
 
 /// From how many equal bytes on they are written once, with their count.
 const SHORTEST_RUN: usize = 8;

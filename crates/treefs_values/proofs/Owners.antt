@@ -4,8 +4,8 @@ use Rattle.std.specs.Prelude.{Contains, IsTrue, ◌==◌}
 use Rattle.std.proofs.lemmas.Bool.{and_parts, cases_Bool, eqb-false, eqb-true, or_cases}
 use Rattle.std.proofs.lemmas.List.Elements.{Contains-append_right}
 use Rattle.std.proofs.lemmas.Option.{same_Some}
-use Rattle.xn_model.specs.declared.status.Status.TheVariants.{Fresh, Owned, Dropped}
-use Rattle.xn_model.specs.declared.status.Status.{Status}
+use Rattle.store_types.specs.declared.status.Status.TheVariants.{Fresh, Owned, Dropped}
+use Rattle.store_types.specs.declared.status.Status.{Status}
 use Rattle.xn_model.specs.Types.{Types}
 use Rattle.xn_model.specs.Root.{owned_by_root, roots_of, templates_of, word_at}
 use Rattle.xn_model.specs.Lives.{Life, StoreState, bytes_of, life_at}

@@ -6,12 +6,12 @@ use Rattle.std.proofs.lemmas.Bool.{cases_eq, eq-eqb}
 use Rattle.std.proofs.lemmas.List.Elements.{All-head, All-tail}
 use Rattle.std.proofs.lemmas.Option.{same_Some}
 use Rattle.xn_model.specs.Lists.{blocks_of, has_number}
-use Rattle.xn_model.specs.declared.status.Status.TheVariants.{Dropped, Fresh, Owned}
+use Rattle.store_types.specs.declared.status.Status.TheVariants.{Dropped, Fresh, Owned}
 use Rattle.xn_model.specs.Types.{Types}
 use Rattle.xn_model.specs.Lives.{BlockState, Life, StoreState, current, is_dropped, is_for, life_at}
 use Rattle.xn_model.specs.Calls.{edited, latest, life_bytes, own_place, patched, propose_of}
 use Rattle.xn_model.specs.Results.{first_refusal, result_map, unless}
-use Rattle.xn_model.specs.declared.refusal.Refusal.TheVariants.{NotInUse, NotYours}
+use Rattle.store_types.specs.declared.refusal.Refusal.TheVariants.{NotInUse, NotYours}
 use Rattle.xn_model.specs.Rules.{IsConsistent}
 use Rattle.xn_model.proofs.ForCallers.{accepted, blocks_of_at, each_at, has_number_at, propose_keeps}
 use Rattle.ffs_model.proofs.ForCallers.{proposed, proposed_here, proposed_others}

@@ -1,7 +1,7 @@
 -- The types that a file system sees.
 --     kinds state fs    the type of each block; 0 for one that may not be read
 use Rattle.std.specs.Prelude.{ℕ, Result, Ok, Err}
-use Rattle.xn_model.specs.declared.refusal.Refusal.{Refusal}
+use Rattle.store_types.specs.declared.refusal.Refusal.{Refusal}
 use Rattle.xn_model.specs.Lives.{StoreState}
 use Rattle.xn_model.specs.Calls.{kind_of}
 

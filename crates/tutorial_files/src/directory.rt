@@ -5,8 +5,8 @@ ghost use Rattle.std.specs.Prelude.{◌<◌, IfSome};
 use byteorder::{ByteOrder, LittleEndian};
 use edit_list::{Edit, Fs, Patch};
 use std::alloc::{AllocError, AllocFailed, Global};
+use store_types::{BLOCK_LEN, Refusal};
 use thiserror::Error;
-use xn_model::Refusal;
 use xn_state::Store;
 
 /// How many entries a directory has, of 32 bytes each: the number of a file's block, then its name and zeros.
@@ -58,14 +58,14 @@ impl<T: Drop> From<AllocFailed<T>> for Fault {
 }
 
 /// The number of the block that an entry names; 0 where it is free.
-fn entry_block(bytes: &[u8; 512], entry: usize) -> u32
+fn entry_block(bytes: &[u8; BLOCK_LEN], entry: usize) -> u32
     requires { entry < 16 }
 {
     LittleEndian::read_u32(&bytes[ENTRY_LEN * entry..ENTRY_LEN * entry + 4])
 }
 
 /// The name of an entry, without the zeros behind it.
-fn entry_name(bytes: &[u8; 512], entry: usize) -> &[u8]
+fn entry_name(bytes: &[u8; BLOCK_LEN], entry: usize) -> &[u8]
     requires { entry < 16 }
 {
     let name = &bytes[ENTRY_LEN * entry + 4..ENTRY_LEN * (entry + 1)];
@@ -82,7 +82,7 @@ fn entry_bytes(alloc: Global, block: u32, name: &[u8]) -> Result<Vec<u8>, AllocE
 }
 
 /// The entry with this name.
-fn find(bytes: &[u8; 512], name: &[u8]) -> Option<usize>
+fn find(bytes: &[u8; BLOCK_LEN], name: &[u8]) -> Option<usize>
     ensures { IfSome result (λ entry. entry < 16) }
 {
     for entry in 0..ENTRIES {
@@ -94,7 +94,7 @@ fn find(bytes: &[u8; 512], name: &[u8]) -> Option<usize>
 }
 
 /// The first free entry.
-fn find_free(bytes: &[u8; 512]) -> Option<usize>
+fn find_free(bytes: &[u8; BLOCK_LEN]) -> Option<usize>
     ensures { IfSome result (λ entry. entry < 16) }
 {
     for entry in 0..ENTRIES {
@@ -106,7 +106,7 @@ fn find_free(bytes: &[u8; 512]) -> Option<usize>
 }
 
 /// The entry for a file with this name, and the block that it names now, if it does.
-fn find_place(bytes: &[u8; 512], name: &[u8]) -> Option<(usize, Option<u32>)>
+fn find_place(bytes: &[u8; BLOCK_LEN], name: &[u8]) -> Option<(usize, Option<u32>)>
     ensures { IfSome result (λ place. place.0 < 16) }
 {
     match find(bytes, name) {
@@ -125,7 +125,7 @@ pub struct Directory {
 impl Directory {
     /// Makes an empty directory of this type, as the file system's root.
     pub fn make<S: Store>(store: &mut S, fs: Fs, ty: u32) -> Result<Directory, Fault> {
-        let (block, _) = store.init(fs, ty, &[0; 512])?;
+        let (block, _) = store.init(fs, ty, &[0; BLOCK_LEN])?;
         let _ = store.make_root(fs, block)?;
         Ok(Directory { fs, block })
     }
@@ -167,7 +167,7 @@ impl Directory {
         alloc: Global,
         store: &mut S,
         name: &[u8],
-        bytes: &[u8; 512],
+        bytes: &[u8; BLOCK_LEN],
     ) -> Result<(), Fault> {
         if name.is_empty() || name.len() > NAME_LEN || name.contains(&0) {
             return Err(Fault::BadName);
@@ -213,7 +213,7 @@ impl Directory {
     }
 
     /// The bytes of a file.
-    pub fn get<S: Store>(&self, store: &S, name: &[u8]) -> Result<[u8; 512], Fault> {
+    pub fn get<S: Store>(&self, store: &S, name: &[u8]) -> Result<[u8; BLOCK_LEN], Fault> {
         let now = store.read(self.fs, self.block)?;
         let entry = find(now, name).ok_or(Fault::NoFile)?;
         Ok(*store.read(self.fs, entry_block(now, entry))?)

@@ -10,8 +10,8 @@ use edit_list::Fs;
 use std::alloc::Global;
 use std::io;
 use std::thread::Threads;
+use store_types::{BLOCK_LEN, Refusal};
 use world::{Running, World};
-use xn_model::Refusal;
 use xn_state::{Event, Store};
 
 /// How many blocks the disk has.
@@ -58,8 +58,8 @@ const CHANGES: [(Change, Option<Files>); 6] = [
 ];
 
 /// A block that begins with these bytes.
-fn block_of(bytes: &[u8]) -> [u8; 512] {
-    let mut block = [0; 512];
+fn block_of(bytes: &[u8]) -> [u8; BLOCK_LEN] {
+    let mut block = [0; BLOCK_LEN];
     for (to, from) in block.iter_mut().zip(bytes) {
         *to = *from;
     }

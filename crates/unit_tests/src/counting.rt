@@ -4,11 +4,12 @@ ghost use Rattle.std.specs.Prelude.{⊤};
 ghost use Rattle.disk.specs.Mem.{memory_leaves};
 
 use crate::disks::{fresh_lanes, fs, give, mounted, no_lanes, same, take};
-use disk::{BLOCK_LEN, DeviceFault, Lane, Lanes, MemLane};
+use disk::{DeviceFault, Lane, Lanes, MemLane};
 use std::alloc::Global;
 use std::process::Abort;
 use std::sync::Arc;
 use std::sync::atomic::{AtomicU64, Ordering};
+use store_types::BLOCK_LEN;
 use xn_kernel::{EditId, FlushStop, Kernel, Store};
 
 /// A lane in memory. All lanes of a disk have one count of writes, syncs and reads, and each keeps at which of them its own came last.
@@ -138,7 +139,7 @@ fn a_wave_is_written_before_its_first_sync(rt: HostRuntime) {
     let mut kernel = mounted(&rt, rt.alloc(), lanes, 1);
     let owner = fs(&rt, 0);
     for block in 1..4u32 {
-        let begun = kernel.init(owner, 2, &[0x41; 512]);
+        let begun = kernel.init(owner, 2, &[0x41; BLOCK_LEN]);
         same(&rt, "a block", begun, Ok((block, EditId(u64::from(block)))));
     }
     same(&rt, "waves", flushed(&mut kernel, rt.alloc()), Some(1));

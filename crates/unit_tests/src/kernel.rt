@@ -5,6 +5,7 @@ use disk::{Lane, Lanes, MemLane, PlanLane};
 use std::alloc::Global;
 use std::process::Abort;
 use std::thread::Threads;
+use store_types::BLOCK_LEN;
 use xn_kernel::{DrainStop, EditId, Fs, Kernel, Landed, Refusal, Store, Ticket};
 
 // These functions have no contracts, so that the proofs of the tests stay short.
@@ -17,7 +18,7 @@ fn rooted<R: Threads + Abort + Sync>(
 ) -> Kernel<PlanLane> {
     let mut kernel = mounted(rt, alloc, lanes, 1);
     let owner = fs(rt, 0);
-    let started = kernel.init(owner, 2, &[0x41; 512]);
+    let started = kernel.init(owner, 2, &[0x41; BLOCK_LEN]);
     is(rt, "a first block", started == Ok((1, EditId(1))));
     is(rt, "a root", kernel.make_root(owner, 1) == Ok(EditId(2)));
     kernel
@@ -147,7 +148,7 @@ fn refused(
 /// Why the finishes of a write of block 1 are refused: before a sync, after one that fails, and after a write behind a good one. The count
 /// is of the entries that a good sync and a finish make durable then.
 fn refused_finishes(kernel: &mut Kernel<MemLane>, owner: Fs) -> Result<([Refusal; 3], u32), u32> {
-    let _started = kernel.init(owner, 2, &[0x41; 512]);
+    let _started = kernel.init(owner, 2, &[0x41; BLOCK_LEN]);
     let Ok(mut ticket) = kernel.begin(1) else {
         return Err(0);
     };

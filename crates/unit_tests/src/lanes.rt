@@ -4,6 +4,7 @@ use crate::disks::{give, is, same, take};
 use disk::{DeviceFault, Lane, Lanes, MemDisk, MemLane};
 use std::alloc::Global;
 use std::process::Abort;
+use store_types::BLOCK_LEN;
 
 /// The lane of block 1 on a disk of two blocks of sevens.
 fn second_lane(rt: &impl Abort, alloc: Global) -> MemLane {
@@ -22,11 +23,11 @@ fn a_failed_write_leaves_old_or_new_bytes(rt: HostRuntime) {
         is(
             &rt,
             "a failed write",
-            lane.write(&[1; 512]) == Err(DeviceFault),
+            lane.write(&[1; BLOCK_LEN]) == Err(DeviceFault),
         );
         same(&rt, "faults", lane.faults(), 1);
         same(&rt, "the byte that is left", lane.bytes()[0], left);
-        is(&rt, "a write", lane.write(&[2; 512]) == Ok(()));
+        is(&rt, "a write", lane.write(&[2; BLOCK_LEN]) == Ok(()));
         same(&rt, "a byte of it", lane.bytes()[511], 2);
     }
 }
@@ -36,7 +37,7 @@ fn left_after(mut lane: MemLane, fault: Option<bool>, sync: Option<bool>, is_kep
     if let Some(new_bytes_stay) = fault {
         lane.fail_write(new_bytes_stay);
     }
-    let _written = lane.write(&[9; 512]);
+    let _written = lane.write(&[9; BLOCK_LEN]);
     if let Some(is_well) = sync {
         if !is_well {
             lane.fail_sync();

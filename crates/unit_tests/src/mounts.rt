@@ -3,6 +3,7 @@
 use crate::disks::{are_home, failing_lanes, faulty, fresh_lanes, give, is, mounted, same, take};
 use crash_check::ImageFault;
 use disk::{DeviceFault, Lane};
+use store_types::BLOCK_LEN;
 
 #[test]
 fn a_mount_gives_the_lanes_back(rt: HostRuntime) {
@@ -34,7 +35,7 @@ fn a_mount_reads_no_lane_whose_sync_fails(rt: HostRuntime) {
     is(
         &rt,
         "a read that fails",
-        lane.read(&mut [0; 512]) == Err(DeviceFault),
+        lane.read(&mut [0; BLOCK_LEN]) == Err(DeviceFault),
     );
     give(&rt, &mut lanes, lane);
     let _kernel = mounted(&rt, rt.alloc(), lanes, 1);
@@ -44,7 +45,7 @@ fn a_mount_reads_no_lane_whose_sync_fails(rt: HostRuntime) {
 fn a_mount_settles_what_it_reads(rt: HostRuntime) {
     let mut lanes = fresh_lanes(&rt, rt.alloc());
     let mut lane = take(&rt, &mut lanes, 32, 31);
-    is(&rt, "a write", lane.write(&[9; 512]) == Ok(()));
+    is(&rt, "a write", lane.write(&[9; BLOCK_LEN]) == Ok(()));
     give(&rt, &mut lanes, lane);
     let mut lanes = mounted(&rt, rt.alloc(), lanes, 1).into_lanes();
     let mut lane = take(&rt, &mut lanes, 32, 31);

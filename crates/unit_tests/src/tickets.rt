@@ -6,6 +6,7 @@ use disk::MemLane;
 use std::alloc::{AllocError, Global};
 use std::process::Abort;
 use std::thread::Threads;
+use store_types::BLOCK_LEN;
 use xn_kernel::{Edit, Fs, Kernel, Landed, Patch, Refusal, Store, Ticket};
 
 /// What the finish of a write with one entry does.
@@ -32,7 +33,11 @@ fn edited<R: Threads + Abort + Sync>(rt: &R, alloc: Global, id: u64, byte: u8) -
     let mut kernel = mounted(rt, alloc, lanes, id);
     let owner = fs(rt, 0);
     let edit = first_byte(alloc, 67).expect(rt, "memory");
-    is(rt, "a block", kernel.init(owner, 2, &[byte; 512]).is_ok());
+    is(
+        rt,
+        "a block",
+        kernel.init(owner, 2, &[byte; BLOCK_LEN]).is_ok(),
+    );
     is(rt, "a root", kernel.make_root(owner, 1).is_ok());
     is(rt, "a drain", drain(&mut kernel).1.is_none());
     is(rt, "an edit", kernel.propose(owner, 1, &edit).is_ok());

@@ -1,6 +1,7 @@
 // A list of events, and an image that is read.
 
 use crate::disks::{fs, is, same};
+use store_types::BLOCK_LEN;
 use world::{Answer, Call, Event, Reply, World};
 use xn_kernel::{EditId, Refusal};
 
@@ -8,7 +9,7 @@ use xn_kernel::{EditId, Refusal};
 fn events_of_a_list_are_run_in_their_order(rt: HostRuntime) {
     let owner = fs(&rt, 0);
     let mut world = World::format(&rt, rt.alloc(), 32, &[]).expect(&rt, "a world");
-    let bytes = [0x41; 512];
+    let bytes = [0x41; BLOCK_LEN];
     let events = [
         Event::Call(owner, Call::Init { ty: 2, bytes }),
         Event::Call(owner, Call::MakeRoot { block: 1 }),

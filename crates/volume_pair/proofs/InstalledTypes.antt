@@ -1,6 +1,6 @@
 -- What an installation leaves of the types.
 use Rattle.std.proofs.Common.{◌∙◌, ◌≡◌, ℕ, ◌+◌, ◌<◌, Bool, true, false, cond, ◌&&◌, List, length, Some, Result, Ok, Err, refl, sym, ap, subst, inl, inr, is_some}
-use Rattle.xn_model.specs.declared.refusal.Refusal.{Refusal}
+use Rattle.store_types.specs.declared.refusal.Refusal.{Refusal}
 use Rattle.xn_model.specs.Languages.{Extends, language_template, types_in, owned_by_template, size_by_template}
 use Rattle.xn_model.specs.Lives.{StoreState}
 use Rattle.xn_model.specs.Calls.{install_of, latest}

@@ -1,6 +1,6 @@
 -- What is known of a file system stays over the calls of others, over what the device does, and over a crash.
 use Rattle.std.proofs.Common.{◌∙◌, lit≤, false, Ok, Err, ◌≡◌, ◌≢◌, ℕ, ◌<◌, ◌≤◌, List, Option, Some, None, Result, refl, sym, ap, subst, IfSome, IsOk, IsSomeAnd, IsTrue}
-use Rattle.xn_model.specs.declared.refusal.Refusal.{Refusal}
+use Rattle.store_types.specs.declared.refusal.Refusal.{Refusal}
 use Rattle.xn_model.specs.Types.{Types}
 use Rattle.xn_model.specs.Lives.{StoreState}
 use Rattle.xn_model.specs.Results.{Gives, GivesExactly}

@@ -1,6 +1,6 @@
 -- What is known of a file system stays over the rounds of a drain.
 use Rattle.std.proofs.Common.{◌≡◌, ℕ, zero, suc, List, Option, Some, None, Result, Ok, Err, sym, inl, inr, subst, IfOk, IfErr}
-use Rattle.xn_model.specs.declared.refusal.Refusal.{Refusal}
+use Rattle.store_types.specs.declared.refusal.Refusal.{Refusal}
 use Rattle.xn_model.specs.Lives.{StoreState}
 use Rattle.xn_model.specs.Calls.{begun_of, settled_of}
 use Rattle.xn_model.proofs.ForCallers.{begun_keeps, settled_keeps}

@@ -14,9 +14,9 @@ use ffs_lib::{EditId, Fs, Volume};
 use std::alloc::Global;
 use std::marker::Model;
 use std::thread::Threads;
+use store_types::{BLOCK_LEN, Refusal};
 use templates::Template;
 use world::{Event, Reply, Running, World};
-use xn_model::Refusal;
 use xn_state::{Edit, Store};
 
 /// A file system that makes no calls meanwhile, with its volume where that is open.
@@ -140,7 +140,7 @@ impl<S: Disk> Store for Guarded<S> {
 
     ghost with_state = { S.with_state };
 
-    fn init(&mut self, fs: Fs, ty: u32, bytes: &[u8; 512]) -> Result<(u32, EditId), Refusal> {
+    fn init(&mut self, fs: Fs, ty: u32, bytes: &[u8; BLOCK_LEN]) -> Result<(u32, EditId), Refusal> {
         self.store.init(fs, ty, bytes)
     }
 
@@ -158,7 +158,7 @@ impl<S: Disk> Store for Guarded<S> {
         self.store.forget(fs, block)
     }
 
-    fn read(&self, fs: Fs, block: u32) -> Result<&[u8; 512], Refusal> {
+    fn read(&self, fs: Fs, block: u32) -> Result<&[u8; BLOCK_LEN], Refusal> {
         self.store.read(fs, block)
     }
 

@@ -15,6 +15,7 @@ ghost use Rattle.volume_pair.specs.LibraryTypes.{IsInstalledAt, IsLibraryType, I
 use ffs_format::law::templates_are_the_librarys;
 use ffs_format::templates;
 use std::alloc::Global;
+use store_types::BLOCK_LEN;
 use templates::law::templates_are_read;
 use templates::{Template, pointer, write_block};
 use world::{Event, Reply, Running};
@@ -23,7 +24,7 @@ use world::{Event, Reply, Running};
 const TYPES: usize = 3;
 
 /// How many of the library's types block 0 has, from the first one on.
-fn types_there(root: &[u8; 512]) -> usize
+fn types_there(root: &[u8; BLOCK_LEN]) -> usize
     ensures few { result ≤ 3 }
     ensures there { (i : ℕ) → i < result → IsTrue (has_type root.now (3 + i)) }
     ensures next { result < 3 → has_type root.now (3 + result) ≡ false }

@@ -7,8 +7,8 @@ use Rattle.xn_model.specs.Images.{IsDiskSize, IsSound, block_of, blocks_in, join
 use Rattle.xn_model.specs.BareDisks.{mounted_disk}
 use Rattle.xn_model.specs.Worlds.{World}
 use Rattle.xn_model.proofs.ForCallers.{blocks_read, built_ins_in, length-joined, world_sound}
-use Rattle.image_model.specs.declared.fault.ImageFault.{ImageFault}
-use Rattle.image_model.specs.declared.fault.ImageFault.TheVariants.{NoMemory}
+use Rattle.store_types.specs.declared.image_fault.ImageFault.{ImageFault}
+use Rattle.store_types.specs.declared.image_fault.ImageFault.TheVariants.{NoMemory}
 use Rattle.image_model.proofs.ForCallers.{verdict-unsound}
 use Rattle.templates.specs.declared.fault.FormatFault.TheVariants.{BadCount, TooManyTemplates}
 use Rattle.templates.specs.Templates.{TemplateValue, IsTemplate}

@@ -19,8 +19,8 @@ use Rattle.xn_model.specs.BareDisks.{mounted_disk}
 use Rattle.xn_model.specs.Rules.{Holds}
 use Rattle.xn_model.proofs.ForCallers.{blocks_read, built_ins_in, length-joined, lanes_mounted, mount_holds, recovered_is}
 use Rattle.image_model.specs.Walk.{verdict}
-use Rattle.image_model.specs.declared.fault.ImageFault.{ImageFault}
-use Rattle.image_model.specs.declared.fault.ImageFault.TheVariants.{NoMemory}
+use Rattle.store_types.specs.declared.image_fault.ImageFault.{ImageFault}
+use Rattle.store_types.specs.declared.image_fault.ImageFault.TheVariants.{NoMemory}
 use Rattle.image_model.proofs.ForCallers.{verdict-unsound}
 use Rattle.xn_kernel.specs.Kernels.{KernelValue, TicketValue}
 use Rattle.templates.specs.Language.{language, types_of_image}

@@ -2,8 +2,8 @@
 use Rattle.std.specs.Prelude.{◌≡◌, ◌⊎◌, ℕ, ◌*◌, ◌<◌, ◌≤◌, List, length, Err}
 use Rattle.xn_model.specs.Images.{blocks_in}
 use Rattle.image_model.specs.Walk.{verdict}
-use Rattle.image_model.specs.declared.fault.ImageFault.{ImageFault}
-use Rattle.image_model.specs.declared.fault.ImageFault.TheVariants.{NoMemory, BadLength}
+use Rattle.store_types.specs.declared.image_fault.ImageFault.{ImageFault}
+use Rattle.store_types.specs.declared.image_fault.ImageFault.TheVariants.{NoMemory, BadLength}
 use Rattle.templates.specs.Formats.{most_formatted}
 use Rattle.templates.specs.Language.{types_of_image}
 

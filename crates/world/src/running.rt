@@ -12,11 +12,12 @@ ghost use Rattle.world.specs.Worlds.{world_with, value_of, IsWorld};
 use crate::ticket::Work;
 use crate::tickets::Tickets;
 use crate::unmounted::{UnmountedDisk, crash_lanes, take_lanes_back, write_lanes};
-use disk::{BLOCK_LEN, MemLane};
+use disk::MemLane;
 use std::alloc::{AllocError, Allocator, Global};
 use std::io;
 use std::io::Write;
 use std::marker::Model;
+use store_types::BLOCK_LEN;
 use xn_kernel::Kernel;
 use xn_state::{Event, Reply};
 
@@ -196,7 +197,7 @@ impl<A: Allocator> Running<A> {
     }
 
     /// The bytes of block 0 on the disk: its catalogue tells which templates a mount would find there.
-    pub fn root_bytes(&self) -> &[u8; 512]
+    pub fn root_bytes(&self) -> &[u8; BLOCK_LEN]
         ensures { result.now ≡ block_of self.now.image 0 }
     {
         self.rules();
@@ -204,7 +205,7 @@ impl<A: Allocator> Running<A> {
     }
 
     /// The bytes of one block, whose lane is at home or with a ticket.
-    fn block_bytes(&self, block: usize) -> &[u8; 512]
+    fn block_bytes(&self, block: usize) -> &[u8; BLOCK_LEN]
         requires { block < length self.now.image }
         ensures { result.now ≡ block_of self.now.image block }
     {

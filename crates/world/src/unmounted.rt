@@ -16,12 +16,13 @@ use crate::running::Running;
 use crate::ticket::DroppableTicket;
 use crate::tickets::Tickets;
 use crash_check::{ImageFault, mount};
-use disk::{BLOCK_LEN, Lanes, MemLane, lanes_from};
+use disk::{Lanes, MemLane, lanes_from};
 use std::alloc::{AllocError, Allocator, Global};
 use std::io;
 use std::io::Write;
 use std::marker::Model;
 use std::thread::Threads;
+use store_types::BLOCK_LEN;
 use xn_kernel::Kernel;
 use xn_state::State;
 
@@ -132,7 +133,7 @@ impl<A: Allocator> UnmountedDisk<A> {
     }
 
     /// The bytes of one block.
-    fn block_bytes(&self, block: u32) -> &[u8; 512]
+    fn block_bytes(&self, block: u32) -> &[u8; BLOCK_LEN]
         requires { block < length self.now }
         ensures { result.now ≡ block_of self.now block }
     {

@@ -26,15 +26,14 @@ ghost use Rattle.world.specs.WorldDisks.{disk_value, IsWorldDisk};
 use crate::running::Running;
 use crate::unmounted::{UnmountedDisk, is_whole};
 use crash_check::{ImageFault, state_of};
-use disk::BLOCK_LEN;
 use ffs_model::{events_keep_cuts, image_is_cut};
 use std::alloc::{AllocError, Allocator, Global};
 use std::io::Write;
 use std::marker::Model;
 use std::thread::Threads;
 use std::{io, mem};
-use templates::{FormatFault, MAX_FORMAT_BLOCKS, Template, format_image};
-use xn_model::Refusal;
+use store_types::{BLOCK_LEN, MAX_FORMAT_BLOCKS, Refusal};
+use templates::{FormatFault, Template, format_image};
 use xn_state::{Answer, EditId, Event, Landed, Reply, State, Stopped};
 
 /// A disk in memory, its kernel, and the tickets of the writes that are under way. After a crash whose mount found no memory it

@@ -7,8 +7,8 @@ use Rattle.xn_model.specs.Types.{Types, claims, named_once}
 use Rattle.xn_model.specs.Images.{most_blocks}
 use Rattle.xn_model.specs.Root.{slot, with_slot}
 use Rattle.xn_model.specs.Lives.{BlockState, Life, Lives, StoreState, life_at, bytes_of, current, is_fresh, accepted_at, lowest_free}
-use Rattle.xn_model.specs.declared.refusal.Refusal.{Refusal}
-use Rattle.xn_model.specs.declared.refusal.Refusal.TheVariants.{NoSpace, TooManyPending, Exhausted, NotFresh, NotOwned, NotEmpty, RootTaken}
+use Rattle.store_types.specs.declared.refusal.Refusal.{Refusal}
+use Rattle.store_types.specs.declared.refusal.Refusal.TheVariants.{NoSpace, TooManyPending, Exhausted, NotFresh, NotOwned, NotEmpty, RootTaken}
 use Rattle.xn_model.specs.Calls.{Edit, patched, first_state, new_life, init_at, init_refusal, init_of, accepts, edited, propose_of, propose_at, too_many, exhausted, is_empty, root_now, slot_now, life_bytes, root_state, life_pending, make_root_of, make_root_at, drop_root_of, forget_of, forget_at, forget_refusal, edit_tests}
 use Rattle.xn_model.specs.Rules.{IsConsistent}
 use Rattle.xn_model.proofs.ForCallers.{of_life, accepted, Contains-none, Contains-head, Contains-cons, last_of, accepted_is, each_back, set_same, set_other, freed_is, free_back, given_ok, own_then, same_ok, never_ok, unless_ok, lowest_is, claim_stays, in_newest, fresh_owned, slot_stays, in_range, forgets}

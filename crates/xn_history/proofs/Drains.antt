@@ -6,7 +6,7 @@ use Rattle.std.proofs.lemmas.Bool.{cond_both, cases_Bool, or_left, or_right, fal
 use Rattle.std.proofs.lemmas.Option.{none-some, same_Some}
 use Rattle.xn_model.specs.Images.{block_of}
 use Rattle.xn_model.specs.Lives.{BlockState, Life, Lives, life_at, newest, durable_after, alive_and}
-use Rattle.xn_model.specs.declared.refusal.Refusal.TheVariants.{InFlight, NotSynced}
+use Rattle.store_types.specs.declared.refusal.Refusal.TheVariants.{InFlight, NotSynced}
 use Rattle.xn_model.specs.Calls.{begun_of, settled_of, pick_of}
 use Rattle.xn_model.specs.Worlds.{World, types_now, Drain, Client, Reply, Begun, Landed, Synced, Finished, Drained, Refused, begin, begun_count, write, settle_bytes, given_at, read_back, land, sync, finish, write_out, drain_for, drain, all_pending}
 use Rattle.xn_model.specs.Rules.{Holds, IsIdle}

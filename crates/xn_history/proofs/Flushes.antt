@@ -7,7 +7,7 @@ use Rattle.std.proofs.lemmas.Option.{none-some}
 use Rattle.xn_model.specs.Lists.{has_number}
 use Rattle.xn_model.specs.Types.{Types}
 use Rattle.xn_model.specs.Lives.{BlockState, Life, Lives, StoreState, life_at, newest, durable_after, begun_at, settled_at, freed, drops_of}
-use Rattle.xn_model.specs.declared.status.Status.TheVariants.{Owned}
+use Rattle.store_types.specs.declared.status.Status.TheVariants.{Owned}
 use Rattle.xn_model.specs.Calls.{begun_of, begun_place, settled_of, settled_place, settled_after, settled_with, first_pending}
 use Rattle.xn_model.specs.Rules.{IsConsistent}
 use Rattle.xn_model.proofs.ForCallers.{of_life, with_begun, settled, bared, each, free, has_number_at, Contains-take, Contains-drop, begun_is, free_at, each_back, each_forth, free_back, free_forth, settled_is, map_ok, settled_last, owned_dropped, settles_place, drops_at}

@@ -4,8 +4,8 @@ use Rattle.std.proofs.lemmas.Option.{none-some, same_Some}
 use Rattle.xn_model.specs.Images.{block_of}
 use Rattle.xn_model.specs.Lives.{BlockState, Life, StoreState, life_at, durable_after, on_disk, lowest_free}
 use Rattle.xn_model.specs.Worlds.{World, types_now, Event, Client, Install, Begin, Land, Fail, Sync, FailSync, Finish, Crash, Reply, MayLeave, left, Step, IsEvent, Init, Started, Down, call, reply_and_world}
-use Rattle.xn_model.specs.declared.refusal.Refusal.{Refusal}
-use Rattle.xn_model.specs.declared.refusal.Refusal.TheVariants.{NoSpace}
+use Rattle.store_types.specs.declared.refusal.Refusal.{Refusal}
+use Rattle.store_types.specs.declared.refusal.Refusal.TheVariants.{NoSpace}
 use Rattle.xn_model.specs.Calls.{init_of, init_at, init_refusal, new_life}
 use Rattle.xn_model.proofs.ForCallers.{left_may, given_ok, same_ok, never_ok, lowest_is}
 use Rattle.std.proofs.lemmas.Bool.{cond_both}

@@ -5,7 +5,7 @@ use Rattle.std.proofs.lemmas.Bool.{cond_both, false≢true}
 use Rattle.std.proofs.lemmas.Option.{same_Some}
 use Rattle.xn_model.specs.Images.{block_of, Reach}
 use Rattle.xn_model.specs.Lives.{Life, life_at, bytes_of, current}
-use Rattle.xn_model.specs.declared.refusal.Refusal.{Refusal}
+use Rattle.store_types.specs.declared.refusal.Refusal.{Refusal}
 use Rattle.xn_model.specs.Results.{result_and_then, result_map}
 use Rattle.xn_model.specs.Calls.{own_life}
 use Rattle.xn_model.specs.Worlds.{World, types_there, Event, Client, Read, Drain, Reply, Bytes, Drained, Down, call, reply_alone, Step, Run, IsEvent}

@@ -3,8 +3,8 @@ use Rattle.std.proofs.Common.{◌≡◌, ◌⊎◌, ℕ, ◌≤◌, Bool, true, 
 use Rattle.std.proofs.lemmas.Option.{none-some}
 use Rattle.xn_model.specs.Images.{block_of}
 use Rattle.xn_model.specs.Lives.{Life, StoreState, life_at}
-use Rattle.xn_model.specs.declared.refusal.Refusal.{Refusal}
-use Rattle.xn_model.specs.declared.refusal.Refusal.TheVariants.{NotSynced}
+use Rattle.store_types.specs.declared.refusal.Refusal.{Refusal}
+use Rattle.store_types.specs.declared.refusal.Refusal.TheVariants.{NotSynced}
 use Rattle.std.specs.Prelude.{cond, is_some}
 use Rattle.std.proofs.lemmas.Bool.{cond_both}
 use Rattle.xn_model.specs.Calls.{begun_of, settled_of}

@@ -6,8 +6,8 @@ use Rattle.std.proofs.lemmas.Slice.Eq.{bytes_eq-Decides}
 use Rattle.std.proofs.lemmas.Option.{same_Some, none-some}
 use Rattle.disk.specs.Lanes.{CountsOne}
 use Rattle.disk.specs.declared.lane.DeviceFault.{DeviceFault}
-use Rattle.xn_model.specs.declared.refusal.Refusal.{Refusal}
-use Rattle.xn_model.specs.declared.refusal.Refusal.TheVariants.{Device}
+use Rattle.store_types.specs.declared.refusal.Refusal.{Refusal}
+use Rattle.store_types.specs.declared.refusal.Refusal.TheVariants.{Device}
 use Rattle.xn_model.specs.Lives.{BlockState, Life, Lives, StoreState, life_at, alive_and, prefix_of, drops_of}
 use Rattle.xn_model.specs.Results.{GivesExactly, result_map}
 use Rattle.xn_model.specs.Calls.{bytes_at, first_pending, is_durable, pick_of, settled_count, settled_place, settled_after, settled_of}

@@ -7,7 +7,7 @@ use Rattle.std.proofs.lemmas.Option.{same_Some, none-some}
 use Rattle.xn_model.specs.Lives.{Life, Lives, StoreState, current, life_at, prefix_of}
 use Rattle.xn_model.specs.Lanes.{FitsLife, FitLives}
 use Rattle.xn_model.specs.Calls.{begun_place, bytes_at, life_bytes}
-use Rattle.xn_model.specs.declared.refusal.Refusal.TheVariants.{NoSuchBlock, NotInUse, InFlight, NothingSafe}
+use Rattle.store_types.specs.declared.refusal.Refusal.TheVariants.{NoSuchBlock, NotInUse, InFlight, NothingSafe}
 use Rattle.xn_model.proofs.ForCallers.{unless_ok, never_ok, none_from, life_from}
 use Rattle.xn_kernel.specs.Kernels.{is_in_flight, other_unless}
 

@@ -8,8 +8,8 @@ use Rattle.std.proofs.lemmas.Option.{same_Some, none-some}
 use Rattle.disk.specs.declared.lane.DeviceFault.{DeviceFault}
 use Rattle.xn_model.specs.Lists.{has_number}
 use Rattle.xn_model.specs.Types.{Types}
-use Rattle.xn_model.specs.declared.refusal.Refusal.{Refusal}
-use Rattle.xn_model.specs.declared.refusal.Refusal.TheVariants.{InFlight, Device, NoMemory}
+use Rattle.store_types.specs.declared.refusal.Refusal.{Refusal}
+use Rattle.store_types.specs.declared.refusal.Refusal.TheVariants.{InFlight, Device, NoMemory}
 use Rattle.xn_model.specs.Lives.{BlockState, Life, Lives, StoreState, begun_at, bytes_of, current, drops_of, durable_after, freed, is_dropped, life_at, settled_at}
 use Rattle.xn_model.specs.Calls.{begun_of, begun_place, first_pending, life_pending, settled_after, settled_of, settled_place}
 use Rattle.xn_model.specs.Rules.{IsConsistent, IsIdle}

@@ -9,8 +9,8 @@ use Rattle.std.specs.List.{list_any}
 use Rattle.disk.specs.Lanes.{CountsOne}
 use Rattle.disk.specs.declared.lane.DeviceFault.{DeviceFault}
 use Rattle.xn_model.specs.Lives.{StoreState, alive_and}
-use Rattle.xn_model.specs.declared.refusal.Refusal.{Refusal}
-use Rattle.xn_model.specs.declared.refusal.Refusal.TheVariants.{InFlight, Device}
+use Rattle.store_types.specs.declared.refusal.Refusal.{Refusal}
+use Rattle.store_types.specs.declared.refusal.Refusal.TheVariants.{InFlight, Device}
 use Rattle.xn_model.specs.Calls.{pick_of, begun_of, settled_of}
 use Rattle.xn_kernel.specs.Kernels.{KernelValue, TicketValue}
 

@@ -7,8 +7,8 @@
 --     MayHold crash lanes image                   what a crash may leave of lanes
 use Rattle.std.specs.Prelude.{◌≡◌, ◌⊎◌, ℕ, zero, suc, ◌<◌, ◌≤◌, Bool, true, false, cond, List, Option, Some, None, Ok, IsTrue, slice_get}
 use Rattle.xn_model.specs.Lives.{Life, Lives, StoreState, current, is_dropped, life_at}
-use Rattle.xn_model.specs.declared.refusal.Refusal.{Refusal}
-use Rattle.xn_model.specs.declared.refusal.Refusal.TheVariants.{InFlight, Device, NoMemory}
+use Rattle.store_types.specs.declared.refusal.Refusal.{Refusal}
+use Rattle.store_types.specs.declared.refusal.Refusal.TheVariants.{InFlight, Device, NoMemory}
 use Rattle.xn_model.specs.Calls.{pick_of, begun_of, settled_of}
 use Rattle.xn_model.specs.Rules.{IsIdle}
 use Rattle.xn_kernel.specs.Drains.{IsBusy}

@@ -11,8 +11,8 @@ use Rattle.std.specs.Prelude.{◌≡◌, ◌⊎◌, ℕ, zero, suc, ◌<◌, ◌
 use Rattle.disk.specs.Lanes.{CountsOne}
 use Rattle.disk.specs.declared.lane.DeviceFault.{DeviceFault}
 use Rattle.xn_model.specs.Lives.{Life, StoreState, life_at}
-use Rattle.xn_model.specs.declared.refusal.Refusal.{Refusal}
-use Rattle.xn_model.specs.declared.refusal.Refusal.TheVariants.{InFlight, Device, NoMemory}
+use Rattle.store_types.specs.declared.refusal.Refusal.{Refusal}
+use Rattle.store_types.specs.declared.refusal.Refusal.TheVariants.{InFlight, Device, NoMemory}
 use Rattle.xn_model.specs.Calls.{pick_of, settled_of, bytes_at}
 use Rattle.xn_model.specs.Rules.{IsIdle}
 use Rattle.xn_kernel.specs.Kernels.{KernelValue, TicketValue, IsKernel}

@@ -19,6 +19,7 @@ use crate::ticket::Ticket;
 use disk::{Lane, Lanes};
 use std::alloc::Global;
 use std::marker::Model;
+use store_types::BLOCK_LEN;
 use templates::Table;
 use xn_state::{EditId, Found, Fs, Landed, Refusal, State};
 
@@ -37,7 +38,7 @@ pub struct Kernel<L: Lane> {
     lanes: Lanes<L>,
     state: State,
     /// What a finish read back last, where that was not what it looked for: kept so that none is cleared for each finish.
-    read_back: [u8; 512],
+    read_back: [u8; BLOCK_LEN],
 }
 
 impl<L: Lane> Model for Kernel<L> {
@@ -92,7 +93,7 @@ impl<L: Lane> Kernel<L> {
                 id,
                 lanes,
                 state,
-                read_back: [0; 512],
+                read_back: [0; BLOCK_LEN],
             }),
             Err(_) => Err(lanes),
         }
@@ -109,7 +110,7 @@ impl<L: Lane> Kernel<L> {
             id,
             lanes,
             state,
-            read_back: [0; 512],
+            read_back: [0; BLOCK_LEN],
         }
     }
 
@@ -235,7 +236,7 @@ impl<L: Lane> Kernel<L> {
 
 /// These bytes, unless they are the same as others.
 #[inline(always)]
-fn other_unless(same: bool, bytes: &[u8; 512]) -> Option<&[u8; 512]>
+fn other_unless(same: bool, bytes: &[u8; BLOCK_LEN]) -> Option<&[u8; BLOCK_LEN]>
     ensures { option_copied result ≡ other_unless same bytes.now }
 {
     if same { None } else { Some(bytes) }

@@ -5,7 +5,7 @@ ghost use Rattle.xn_model.specs.Types.{Types};
 ghost use Rattle.xn_model.specs.Lives.{Life, StoreState, current, is_dropped, life_at};
 ghost use Rattle.xn_model.specs.Rules.{IsConsistent, IsIdle};
 ghost use Rattle.xn_model.specs.Worlds.{all_pending};
-ghost use Rattle.xn_model.specs.declared.refusal.Refusal.{Refusal};
+ghost use Rattle.store_types.specs.declared.refusal.Refusal.{Refusal};
 ghost use Rattle.xn_state.specs.States.{own_types};
 ghost use Rattle.xn_kernel.specs.Kernels.{IsKernel, KernelValue};
 ghost use Rattle.xn_kernel.specs.Flushes.{Waves};

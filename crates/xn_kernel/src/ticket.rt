@@ -7,6 +7,7 @@ ghost use Rattle.xn_kernel.specs.Kernels.{TicketValue};
 use disk::{DeviceFault, Lane, MemLane};
 use std::alloc::Allocator;
 use std::marker::Model;
+use store_types::BLOCK_LEN;
 
 /// A write that was begun: the block's lane, and the bytes that the block's safe entries leave.
 ///
@@ -15,7 +16,7 @@ pub struct Ticket<L: Lane> {
     pub(crate) kernel: u64,
     pub(crate) block: u32,
     pub(crate) count: u32,
-    pub(crate) bytes: [u8; 512],
+    pub(crate) bytes: [u8; BLOCK_LEN],
     pub(crate) lane: L,
     pub(crate) unsynced: bool,
 }

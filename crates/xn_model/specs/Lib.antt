@@ -15,5 +15,4 @@ pub mod Waves
 pub mod BareDisks
 pub mod Rows
 pub mod WaveRows
-pub mod Refusals
 pub mod PendingIn

@@ -9,8 +9,8 @@ use Rattle.std.specs.Prelude.{is_some, is_none, unwrap_or, slice_get, slice_set,
 use Rattle.std.specs.List.{list_any, list_all, last_or}
 use Rattle.xn_model.specs.Lists.{blocks_of, types_of_pairs}
 use Rattle.xn_model.specs.Root.{has_type}
-pub use Rattle.xn_model.specs.declared.status.Status.{Status}
-pub use Rattle.xn_model.specs.declared.status.Status.TheVariants.{Fresh, Owned, Dropped}
+pub use Rattle.store_types.specs.declared.status.Status.{Status}
+pub use Rattle.store_types.specs.declared.status.Status.TheVariants.{Fresh, Owned, Dropped}
 
 -- the bytes that one accepted edit leaves, with its number and its claims
 pub record BlockState : Type 0 where

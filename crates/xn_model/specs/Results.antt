@@ -5,10 +5,10 @@
 use Rattle.std.specs.Prelude.{◌≡◌, Bool, List, [], ◌∷◌, Option, Some, None, Result, Ok, Err, ◌⊎◌, if◌then◌else◌}
 use Rattle.std.specs.Borrow.{Bor}
 use Rattle.xn_model.specs.Lives.{StoreState}
-pub use Rattle.xn_model.specs.declared.refusal.Refusal.{Refusal}
-pub use Rattle.xn_model.specs.declared.refusal.Refusal.TheVariants.{NoMemory, NoSuchBlock, NotInUse, NotYours, BadPatch, BadAfter, NotFresh, NotOwned, NotEmpty}
-pub use Rattle.xn_model.specs.declared.refusal.Refusal.TheVariants.{ClaimWrong, SizeWrong, TooManyPending, NoSpace, BadType, InFlight, NotMine, Device}
-pub use Rattle.xn_model.specs.declared.refusal.Refusal.TheVariants.{RootTaken, NothingSafe, Exhausted, Cycle, NotSynced, NoSlot, BadTemplate}
+pub use Rattle.store_types.specs.declared.refusal.Refusal.{Refusal}
+pub use Rattle.store_types.specs.declared.refusal.Refusal.TheVariants.{NoMemory, NoSuchBlock, NotInUse, NotYours, BadPatch, BadAfter, NotFresh, NotOwned, NotEmpty}
+pub use Rattle.store_types.specs.declared.refusal.Refusal.TheVariants.{ClaimWrong, SizeWrong, TooManyPending, NoSpace, BadType, InFlight, NotMine, Device}
+pub use Rattle.store_types.specs.declared.refusal.Refusal.TheVariants.{RootTaken, NothingSafe, Exhausted, Cycle, NotSynced, NoSlot, BadTemplate}
 
 abbrev pub first_refusal : List (Bool × Refusal) → Option Refusal
 first_refusal [] = None

@@ -29,12 +29,6 @@ ghost use Rattle.xn_model.specs.Rows.{synced_row, failed_sync_row, failed_kept_r
 ghost use Rattle.xn_model.specs.Rows.{drained_row, rolled_back_row, claimed_row, attached_row, chains, chain_disk, cycle_row, installed_row, used_row};
 ghost use Rattle.xn_model.specs.Rows.{gone_row, full_row, subtree_kept_row, subtree_lost_row};
 
-mod refusal;
-mod status;
-
-pub use refusal::Refusal;
-pub use status::Status;
-
 /// Where the rules hold, for all contents that have the durable or the begun state in each block
 /// with a durable one: each block that is reached under the types of their own catalogue holds a
 /// state of its life, from the durable one to the begun one, and has one owner.

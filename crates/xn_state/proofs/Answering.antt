@@ -3,7 +3,7 @@ use Rattle.std.proofs.Common.{◌≡◌, ℕ, false, Result, Ok, Err, refl, sym,
 use Rattle.std.specs.Prelude.{IsTrue}
 use Rattle.xn_model.specs.Types.{Types}
 use Rattle.xn_model.specs.Lives.{StoreState}
-use Rattle.xn_model.specs.declared.refusal.Refusal.{Refusal}
+use Rattle.store_types.specs.declared.refusal.Refusal.{Refusal}
 use Rattle.xn_model.specs.Results.{Gives, GivesExactly}
 use Rattle.xn_model.specs.Calls.{init_of, propose_of, make_root_of, drop_root_of, forget_of, read_of, kind_of}
 use Rattle.xn_model.specs.Worlds.{World, Event, Client, Reply, Started, Edited, Forgotten, Bytes, KindIs, Refused, act, reply_and_world, reply_alone, is_refusal, asks_memory, types_now, AfterCall, Step}

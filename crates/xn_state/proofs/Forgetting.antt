@@ -1,7 +1,7 @@
 -- What a forget leaves.
 use Rattle.std.proofs.Common.{◌≡◌, ℕ, Option, Some, None, Result, Ok, Err, refl, ap, slice_set, subst}
 use Rattle.std.specs.Prelude.{IsTrue}
-use Rattle.xn_model.specs.declared.refusal.Refusal.{Refusal}
+use Rattle.store_types.specs.declared.refusal.Refusal.{Refusal}
 use Rattle.xn_model.specs.Types.{Types}
 use Rattle.xn_model.specs.Lives.{StoreState, Life, Lives}
 use Rattle.xn_model.specs.Results.{unless, result_and_then}

@@ -1,6 +1,6 @@
 -- What the calls of a state leave keeps the model's rules.
 use Rattle.std.proofs.Common.{◌≡◌, refl, ℕ, ◌+◌, ◌<◌, List, [], ◌∷◌, length, false, Option, Some, None, Result, Ok, Err, sym, ◌∙◌, ap, slice_get, slice_set, subst}
-use Rattle.xn_model.specs.declared.refusal.Refusal.{Refusal}
+use Rattle.store_types.specs.declared.refusal.Refusal.{Refusal}
 use Rattle.xn_model.specs.Root.{with_slot}
 use Rattle.xn_model.specs.Lives.{StoreState, Life, Lives, life_at, lowest_free, begun_at, settled_at, freed, drops_of}
 use Rattle.xn_model.specs.Results.{unless, result_map, result_and_then, Gives, GivesExactly}

@@ -2,8 +2,8 @@
 use Rattle.std.proofs.Common.{◌≡◌, ◌⊎◌, ℕ, ◌+◌, ◌-◌, ◌^◌, ◌<◌, Bool, true, false, List, [], ◌∷◌, Option, Some, None, Ok, Err, refl, sym, ◌∙◌, ap, inl, inr, subst, ⊎_elim}
 use Rattle.std.specs.Prelude.{IsOk, is_none, is_some, nat_le, unwrap_or}
 use Rattle.std.proofs.lemmas.Bool.{false≢true, leb-false}
-use Rattle.xn_model.specs.declared.refusal.Refusal.{Refusal}
-use Rattle.xn_model.specs.declared.refusal.Refusal.TheVariants.{NoMemory, TooManyPending, NoSpace, Exhausted, NoSlot, BadTemplate}
+use Rattle.store_types.specs.declared.refusal.Refusal.{Refusal}
+use Rattle.store_types.specs.declared.refusal.Refusal.TheVariants.{NoMemory, TooManyPending, NoSpace, Exhausted, NoSlot, BadTemplate}
 use Rattle.xn_model.specs.Lives.{StoreState, life_at, lowest_free}
 use Rattle.xn_model.specs.Results.{Gives, first_refusal, unless}
 use Rattle.xn_model.specs.Calls.{empty_place, install_at, install_of, life_pending, root_now}

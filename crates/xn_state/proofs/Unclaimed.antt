@@ -5,7 +5,7 @@ use Rattle.std.specs.List.{list_all}
 use Rattle.std.proofs.lemmas.Bool.{and_from, and_parts, false≢true, leb-true}
 use Rattle.std.proofs.lemmas.List.{drop_all}
 use Rattle.edit_list.proofs.ForCallers.{length-put, patches_of_edit}
-use Rattle.xn_model.specs.declared.refusal.Refusal.TheVariants.{ClaimWrong, SizeWrong}
+use Rattle.store_types.specs.declared.refusal.Refusal.TheVariants.{ClaimWrong, SizeWrong}
 use Rattle.xn_model.specs.Lists.{blank, blocks_of, distinct, put}
 use Rattle.xn_model.specs.Types.{Types, inside, without, claims, named_once, within_size}
 use Rattle.xn_model.specs.Results.{first_refusal}

@@ -7,9 +7,9 @@ use Rattle.std.proofs.lemmas.Slice.Eq.{bytes_eq-Decides}
 use Rattle.std.proofs.lemmas.Bool.{ne_eqb}
 use Rattle.std.proofs.lemmas.Option.{none-some, same_Some}
 use Rattle.xn_model.specs.Lives.{Life, Lives, StoreState, alive_and, begun_at, bytes_of, current, life_at, prefix_of}
-use Rattle.xn_model.specs.declared.refusal.Refusal.{Refusal}
+use Rattle.store_types.specs.declared.refusal.Refusal.{Refusal}
 use Rattle.xn_model.specs.Results.{first_refusal, result_map, unless}
-use Rattle.xn_model.specs.declared.refusal.Refusal.TheVariants.{NothingSafe, NoSuchBlock, NotInUse, InFlight, NotMine}
+use Rattle.store_types.specs.declared.refusal.Refusal.TheVariants.{NothingSafe, NoSuchBlock, NotInUse, InFlight, NotMine}
 use Rattle.xn_model.specs.Calls.{begun_of, begun_place, bytes_at, is_durable, life_bytes, life_pending, settled_count, settled_place}
 use Rattle.xn_model.specs.Rules.{IsCount}
 use Rattle.xn_model.proofs.ForCallers.{change_same, never_ok, same_ok, unless_passed}

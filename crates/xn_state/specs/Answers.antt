@@ -5,7 +5,7 @@
 use Rattle.std.specs.Prelude.{◌≡◌, ℕ, Result, Ok, Err}
 use Rattle.xn_model.specs.Types.{Types}
 use Rattle.xn_model.specs.Lives.{StoreState}
-use Rattle.xn_model.specs.declared.refusal.Refusal.{Refusal}
+use Rattle.store_types.specs.declared.refusal.Refusal.{Refusal}
 use Rattle.xn_model.specs.Results.{Gives, GivesExactly}
 use Rattle.xn_model.specs.Calls.{init_of, propose_of, make_root_of, drop_root_of, forget_of, read_of, root_of, kind_of, tainted_of, pending_of, floor_of}
 use Rattle.xn_model.specs.Calls.{free_of, pick_of}

@@ -3,7 +3,7 @@ use Rattle.std.specs.Prelude.{ℕ, Bool, not, ◌&&◌, ◌||◌, ◌==◌, Resu
 use Rattle.xn_model.specs.Types.{Types}
 use Rattle.xn_model.specs.Lives.{StoreState, Life}
 use Rattle.block_cache.specs.declared.life.Facts.{Facts}
-use Rattle.xn_model.specs.declared.refusal.Refusal.{Refusal}
+use Rattle.store_types.specs.declared.refusal.Refusal.{Refusal}
 use Rattle.xn_model.specs.Results.{unless, result_and_then}
 use Rattle.xn_model.specs.Calls.{own_life, forget_refusal}
 

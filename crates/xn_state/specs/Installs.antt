@@ -4,8 +4,8 @@
 --     installed_lives lives b n m root     block b begins with the template m as entry n, and block 0 names it by the bytes root
 use Rattle.std.specs.Prelude.{ℕ, ◌+◌, ◌-◌, ◌^◌, List, [], ◌∷◌, Some, None, Result, Ok, is_none, nat_le, slice_set, unwrap_or}
 use Rattle.xn_model.specs.Lives.{BlockState, Lives, StoreState, accepted_at, life_at, lowest_free}
-use Rattle.xn_model.specs.declared.refusal.Refusal.{Refusal}
-use Rattle.xn_model.specs.declared.refusal.Refusal.TheVariants.{NoMemory, TooManyPending, NoSpace, Exhausted, NoSlot, BadTemplate}
+use Rattle.store_types.specs.declared.refusal.Refusal.{Refusal}
+use Rattle.store_types.specs.declared.refusal.Refusal.TheVariants.{NoMemory, TooManyPending, NoSpace, Exhausted, NoSlot, BadTemplate}
 use Rattle.xn_model.specs.Results.{first_refusal, unless}
 use Rattle.xn_model.specs.Calls.{empty_place, life_pending, new_life, root_now}
 use Rattle.templates.specs.declared.fault.TemplateFault.{TemplateFault}

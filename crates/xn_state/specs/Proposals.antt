@@ -5,9 +5,9 @@ use Rattle.xn_model.specs.Lists.{blocks_of, distinct, has_number}
 use Rattle.xn_model.specs.Types.{Types, named_once, within_size}
 use Rattle.xn_model.specs.Root.{with_slot}
 use Rattle.xn_model.specs.Lives.{BlockState, Life, StoreState, chain_end, current, life_at}
-use Rattle.xn_model.specs.declared.refusal.Refusal.{Refusal}
-use Rattle.xn_model.specs.declared.refusal.Refusal.TheVariants.{BadPatch, BadAfter, NotFresh, NotOwned, NotEmpty, ClaimWrong, SizeWrong, TooManyPending}
-use Rattle.xn_model.specs.declared.refusal.Refusal.TheVariants.{Exhausted, Cycle}
+use Rattle.store_types.specs.declared.refusal.Refusal.{Refusal}
+use Rattle.store_types.specs.declared.refusal.Refusal.TheVariants.{BadPatch, BadAfter, NotFresh, NotOwned, NotEmpty, ClaimWrong, SizeWrong, TooManyPending}
+use Rattle.store_types.specs.declared.refusal.Refusal.TheVariants.{Exhausted, Cycle}
 use Rattle.xn_model.specs.Results.{first_refusal, unless, result_and_then, result_map}
 use Rattle.claims.specs.Owners.{is_claimed, owned_count}
 use Rattle.claims.specs.Decided.{newest_at}

@@ -1,7 +1,7 @@
 // What a store answers.
 
 use edit_list::EditId;
-use xn_model::Refusal;
+use store_types::{BLOCK_LEN, Refusal};
 
 /// What a finished write did: how many of its entries are durable, and how many blocks are free.
 #[derive(Clone, Copy, Debug, PartialEq, Eq)]
@@ -30,7 +30,7 @@ pub enum Answer {
     DropRoot(Result<EditId, Refusal>),
     Forget(Result<(), Refusal>),
     /// A copy of the current bytes.
-    Read(Result<[u8; 512], Refusal>),
+    Read(Result<[u8; BLOCK_LEN], Refusal>),
     /// The block in the root slot, or `None` where it is empty.
     Root(Option<u32>),
     /// The type of the block.

@@ -1,12 +1,13 @@
 // What a client asks of a store.
 
 use edit_list::Edit;
+use store_types::BLOCK_LEN;
 
 /// A call of a store, for a file system.
 #[derive(Debug, Drop)]
 pub enum Call {
     /// A fresh block of this type with these bytes.
-    Init { ty: u32, bytes: [u8; 512] },
+    Init { ty: u32, bytes: [u8; BLOCK_LEN] },
     /// An edit of a block.
     Propose { block: u32, edit: Edit },
     /// The file system's root slot set to a fresh block.

@@ -2,6 +2,7 @@
 
 use crate::call::Call;
 use edit_list::Fs;
+use store_types::BLOCK_LEN;
 
 /// One step of a world. Tickets are named by their block.
 #[derive(Debug, Drop)]
@@ -9,7 +10,7 @@ pub enum Event {
     /// A client's call, for its file system.
     Call(Fs, Call),
     /// The template in these bytes is installed.
-    Install([u8; 512]),
+    Install([u8; BLOCK_LEN]),
     /// A write of the block begins.
     Begin(u32),
     /// The begun write of the block is carried out.

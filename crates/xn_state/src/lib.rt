@@ -24,4 +24,4 @@ pub use installed::Installed;
 pub use reply::Reply;
 pub use state::State;
 pub use store::Store;
-pub use xn_model::{Refusal, Status};
+pub use store_types::{Refusal, Status};

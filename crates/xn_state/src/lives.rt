@@ -30,7 +30,7 @@ use edit_list::{EditId, Fs, Undo};
 use free_map::FreeMap;
 use std::alloc::{AllocError, Global};
 use std::marker::Model;
-use xn_model::{Refusal, Status};
+use store_types::{BLOCK_LEN, Refusal, Status};
 
 mod forget;
 mod idle;
@@ -77,7 +77,7 @@ impl Lives {
         requires once { IsTrue (distinct (map (λ f. f.block) found.now)) }
         ensures { IfOk result (λ lives. lives ≡ lives_in image.now found.now) }
     {
-        let (blocks, _) = image.as_chunks::<512>();
+        let (blocks, _) = image.as_chunks::<BLOCK_LEN>();
         let count = blocks.len() as u32;
         let mut places = no_places(alloc, blocks.len())?;
         let mut free = FreeMap::new(alloc, count)?;
@@ -234,7 +234,7 @@ impl Lives {
         number: EditId,
         fs: Option<Fs>,
         ty: u32,
-        bytes: &[u8; 512],
+        bytes: &[u8; BLOCK_LEN],
     ) -> Result<(), AllocError>
         requires free { lowest_free self.old ≡ Some block }
         requires room { IfSome fs (λ f. sum_by (pending_in f.number) self.old < 4096) }

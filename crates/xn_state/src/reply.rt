@@ -2,7 +2,7 @@
 
 use crate::answer::{Answer, Landed};
 use crate::installed::Installed;
-use xn_model::Refusal;
+use store_types::Refusal;
 
 /// The reply to an event.
 #[derive(Clone, Copy, Debug, PartialEq, Eq)]

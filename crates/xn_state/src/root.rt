@@ -6,10 +6,11 @@ ghost use Rattle.xn_model.specs.Calls.{patched};
 
 use edit_list::{Fs, Undo};
 use std::alloc::{AllocError, Global};
+use store_types::BLOCK_LEN;
 use templates::{pointer_start, slot_start};
 
 /// The bytes of a file system's root slot.
-fn slot_bytes(block: &[u8; 512], fs: Fs) -> &[u8]
+fn slot_bytes(block: &[u8; BLOCK_LEN], fs: Fs) -> &[u8]
     ensures { result.now ≡ take 8 (drop (72 + 8 * fs.number) block.now) }
 {
     let at = slot_start(fs.index());
@@ -17,7 +18,7 @@ fn slot_bytes(block: &[u8; 512], fs: Fs) -> &[u8]
 }
 
 /// What undoes a change of a file system's root slot.
-pub fn slot_undo(alloc: Global, block: &[u8; 512], fs: Fs) -> Result<Undo, AllocError>
+pub fn slot_undo(alloc: Global, block: &[u8; BLOCK_LEN], fs: Fs) -> Result<Undo, AllocError>
     ensures { IfOk result (λ undo. (root : ℕ × ℕ) → patched (with_slot block.now fs.number root) undo ≡ block.now) }
 {
     let at = slot_start(fs.index());
@@ -27,7 +28,7 @@ pub fn slot_undo(alloc: Global, block: &[u8; 512], fs: Fs) -> Result<Undo, Alloc
 }
 
 /// The bytes of the pointer at a place of the catalogue, from 0 to 15.
-fn pointer_bytes(block: &[u8; 512], place: usize) -> &[u8]
+fn pointer_bytes(block: &[u8; BLOCK_LEN], place: usize) -> &[u8]
     requires { place < 16 }
     ensures { result.now ≡ take 4 (drop (8 + 4 * place) block.now) }
 {
@@ -36,7 +37,11 @@ fn pointer_bytes(block: &[u8; 512], place: usize) -> &[u8]
 }
 
 /// What undoes a change of the pointer at a place of the catalogue, from 0 to 15.
-pub fn pointer_undo(alloc: Global, block: &[u8; 512], place: usize) -> Result<Undo, AllocError>
+pub fn pointer_undo(
+    alloc: Global,
+    block: &[u8; BLOCK_LEN],
+    place: usize,
+) -> Result<Undo, AllocError>
     requires { place < 16 }
     ensures { IfOk result (λ undo. (pointer : ℕ) → patched (with_pointer block.now place pointer) undo ≡ block.now) }
 {

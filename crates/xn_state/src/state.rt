@@ -22,9 +22,9 @@ use claims::ReadSets;
 use edit_list::{EditId, Fs};
 use std::alloc::{AllocError, Global};
 use std::marker::Model;
+use store_types::{BLOCK_LEN, DATA_TYPE, MAX_PENDING, MAX_PENDING_IN_BLOCK, Refusal};
 use templates::Table;
 use udf_run::Pair;
-use xn_model::Refusal;
 
 mod accept;
 mod answers;
@@ -34,9 +34,6 @@ mod install;
 mod propose;
 mod ready;
 mod roots;
-
-/// The type of blocks of data, which point to nothing and may use all their bytes.
-const DATA_TYPE: u32 = 2;
 
 /// What a store knows of its blocks, beside the disk.
 pub struct State {
@@ -116,11 +113,11 @@ impl State {
     fn is_too_many(&self, fs: Fs, in_block: usize) -> bool
         ensures { result ≡ too_many self.now fs.number in_block }
     {
-        in_block >= 64 || self.lives.pending_for(fs) >= 4096
+        in_block >= MAX_PENDING_IN_BLOCK || self.lives.pending_for(fs) >= MAX_PENDING
     }
 
     /// The first refusal of `init` that applies.
-    fn init_refusal(&self, fs: Fs, ty: u32, bytes: &[u8; 512]) -> Option<Refusal>
+    fn init_refusal(&self, fs: Fs, ty: u32, bytes: &[u8; BLOCK_LEN]) -> Option<Refusal>
         ensures { result ≡ init_refusal (own_types self.now) self.now fs.number ty bytes.now }
     {
         if ty < 2 || !self.types().is_installed(ty) {
@@ -143,7 +140,7 @@ impl State {
 
     /// Whether a block of an installed type points to no other. One of data doesn't, so that there no room is made for what a program
     /// may emit.
-    fn owns_nothing(&self, ty: u32, bytes: &[u8; 512]) -> bool
+    fn owns_nothing(&self, ty: u32, bytes: &[u8; BLOCK_LEN]) -> bool
         requires { IsTrue ((own_types self.now).installed ty) }
         ensures { result ≡ owns_nothing (own_types self.now) ty bytes.now }
     {
@@ -155,7 +152,12 @@ impl State {
     }
 
     /// Starts a life with these bytes on the lowest free block.
-    pub fn init(&mut self, fs: Fs, ty: u32, bytes: &[u8; 512]) -> Result<(u32, EditId), Refusal>
+    pub fn init(
+        &mut self,
+        fs: Fs,
+        ty: u32,
+        bytes: &[u8; BLOCK_LEN],
+    ) -> Result<(u32, EditId), Refusal>
         ensures state { Gives (init_of (own_types self.old) self.old fs.number ty bytes.now) self.old self.new result }
     {
         if let Some(refusal) = self.init_refusal(fs, ty, bytes) {
@@ -177,7 +179,7 @@ impl State {
     }
 
     /// Begins a write of a block: the bytes that its safe entries leave, and how many those are.
-    pub fn begun(&mut self, block: u32) -> Result<([u8; 512], u32), Refusal>
+    pub fn begun(&mut self, block: u32) -> Result<([u8; BLOCK_LEN], u32), Refusal>
         ensures state { GivesExactly (begun_of self.old block) self.old self.new result }
     {
         let count = self.begun_count(block)?;
@@ -196,7 +198,7 @@ impl State {
     /// Begins a write of a block, where so many of its first pending entries may be written: the bytes that they leave. They come last, so
     /// that they are made where the caller wants them.
     #[inline(always)]
-    pub fn begin_counted(&mut self, block: u32, count: u32) -> [u8; 512]
+    pub fn begin_counted(&mut self, block: u32, count: u32) -> [u8; BLOCK_LEN]
         requires count { result_map (λ begun. begun.0.1) (begun_of self.old block) ≡ Ok count }
         requires some { 1 ≤ count }
         requires within { count ≤ life_pending (life_at self.old.lives block) }
@@ -208,7 +210,7 @@ impl State {
 
     /// Ends a write of a block by the bytes that are read back: how many entries are durable now,
     /// and how many blocks are free.
-    pub fn settled(&mut self, block: u32, bytes: &[u8; 512]) -> Result<(u32, u32), Refusal>
+    pub fn settled(&mut self, block: u32, bytes: &[u8; BLOCK_LEN]) -> Result<(u32, u32), Refusal>
         ensures state { GivesExactly (settled_of self.old block bytes.now) self.old self.new result }
     {
         self.settled_unless(block, Some(bytes))
@@ -219,7 +221,7 @@ impl State {
     pub fn settled_unless(
         &mut self,
         block: u32,
-        other: Option<&[u8; 512]>,
+        other: Option<&[u8; BLOCK_LEN]>,
     ) -> Result<(u32, u32), Refusal>
         ensures state { GivesExactly (settled_of self.old block (unwrap_or (option_copied other.entry) (life_bytes (life_at self.old.lives block))))
             self.old self.new result }
@@ -230,7 +232,7 @@ impl State {
     }
 
     /// The newest bytes of a block in use.
-    pub fn newest(&self, block: u32) -> Option<&[u8; 512]>
+    pub fn newest(&self, block: u32) -> Option<&[u8; BLOCK_LEN]>
         ensures { option_copied result ≡ option_map current (life_at self.now.lives block) }
     {
         Some(self.lives.live(block)?.current())
@@ -267,7 +269,7 @@ impl State {
 }
 
 /// Whether a block of an installed type is zero from its size on.
-fn is_within_size(table: &Table, ty: u32, bytes: &[u8; 512]) -> bool
+fn is_within_size(table: &Table, ty: u32, bytes: &[u8; BLOCK_LEN]) -> bool
     requires { IsTrue ((table_types table.now).installed ty) }
     ensures { result ≡ within_size (table_types table.now) ty bytes.now }
 {
@@ -283,7 +285,7 @@ fn is_blank(bytes: &[u8]) -> bool
 }
 
 /// Whether the owns program of an installed type emits nothing on a block.
-fn emits_nothing(table: &Table, ty: u32, bytes: &[u8; 512]) -> bool
+fn emits_nothing(table: &Table, ty: u32, bytes: &[u8; BLOCK_LEN]) -> bool
     requires { IsTrue ((table_types table.now).installed ty) }
     ensures { result ≡ owns_nothing (table_types table.now) ty bytes.now }
 {

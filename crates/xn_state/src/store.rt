@@ -11,8 +11,8 @@ ghost use Rattle.xn_model.specs.Rules.{IsConsistent};
 ghost use Rattle.templates.specs.Tables.{TellsTemplate};
 
 use edit_list::{Edit, EditId, Fs};
+use store_types::{BLOCK_LEN, Refusal};
 use templates::Template;
-use xn_model::Refusal;
 
 /// A store, as a library sees it that keeps files in it. Every call keeps its types and its rules, and changes nothing but its lives and
 /// the next entry number; a refusal changes nothing.
@@ -29,7 +29,7 @@ pub trait Store {
     /// Starts a life with these bytes on the lowest free block. Refused are, in this order, a type that is block 0's or a template's, or that
     /// isn't installed (`BadType`), 4,096 pending entries of the file system (`TooManyPending`), no number left (`Exhausted`), a byte past the
     /// size that is not zero (`SizeWrong`), bytes that point to a block (`ClaimWrong`), no free block (`NoSpace`), last `NoMemory`.
-    fn init(&mut self, fs: Fs, ty: u32, bytes: &[u8; 512]) -> Result<(u32, EditId), Refusal>
+    fn init(&mut self, fs: Fs, ty: u32, bytes: &[u8; BLOCK_LEN]) -> Result<(u32, EditId), Refusal>
         ensures state { Gives (init_of (types_of self.old) (state_of self.old) fs.number ty bytes.now) (state_of self.old) (state_of self.new) result }
         ensures rest { self.new ≡ with_state self.old (state_of self.new) }
         ensures types { types_of self.new ≡ types_of self.old }
@@ -74,7 +74,7 @@ pub trait Store {
     /// The current bytes of a block of the file system: those of its newest pending entry, or where none is pending the durable
     /// ones. Refused are, in this order, a block past the end of the disk (`NoSuchBlock`), a free or dropped one (`NotInUse`), and
     /// one of another file system or of nobody (`NotYours`).
-    fn read(&self, fs: Fs, block: u32) -> Result<&[u8; 512], Refusal>
+    fn read(&self, fs: Fs, block: u32) -> Result<&[u8; BLOCK_LEN], Refusal>
         ensures bytes { Lends (read_of (state_of self.now) fs.number block) result }
         ensures rules { IsConsistent (types_of self.now) (state_of self.now) };
 

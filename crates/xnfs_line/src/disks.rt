@@ -3,12 +3,13 @@
 use crate::fault::{Fault, Reason, reason_of};
 use crate::opened::Opened;
 use crash_check::{ImageFault, mount, mount_known, state_of};
-use disk::{BLOCK_LEN, Lane, MAX_BLOCKS, MemDisk, MemLane, fresh_lanes};
+use disk::{Lane, MemDisk, MemLane, fresh_lanes};
 use ffs_format::templates;
-use file_disk::{FileDisk, FileImage, FileLane, MIN_BLOCKS};
+use file_disk::{FileDisk, FileImage, FileLane};
 use std::alloc::{AllocError, Global};
 use std::fs::{File, Files};
 use std::thread::Threads;
+use store_types::{BLOCK_LEN, MAX_BLOCKS, MIN_BLOCKS};
 use templates::format_image;
 use xn_kernel::Kernel;
 use xnfs_session::{FfsFault, Fs, Session, Stop, TestLane, has_volume};

@@ -3,9 +3,9 @@
 use crate::fault::Fault;
 use crate::finding::fault_at;
 use crate::opened::Opened;
-use disk::MAX_BLOCKS;
 use std::alloc::Global;
 use std::io::Write;
+use store_types::MAX_BLOCKS;
 use xnfs_session::{FlushStore, Owner};
 
 /// What the blocks of a type are.

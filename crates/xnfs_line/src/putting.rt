@@ -7,6 +7,7 @@ use crate::fault::{Fault, Reason, at, system};
 use crate::finding::{Place, naming_fault};
 use crate::opened::Opened;
 use std::alloc::Global;
+use store_types::BLOCK_LEN;
 use xn_kernel::Refusal;
 use xnfs_session::{FfsFault, FlushStore, MOST_BYTES, Node};
 
@@ -62,8 +63,12 @@ fn flush_waves<S: FlushStore + Drop>(
 /// How many blocks a file of so many bytes takes.
 fn blocks_for(bytes: usize) -> u32 {
     let bytes = bytes.min(MOST_BYTES as usize);
-    let whole = (bytes / 512) as u32;
-    let data = if bytes % 512 == 0 { whole } else { whole + 1 };
+    let whole = (bytes / BLOCK_LEN) as u32;
+    let data = if bytes % BLOCK_LEN == 0 {
+        whole
+    } else {
+        whole + 1
+    };
     if data > 12 { data + 1 } else { data }
 }
 

@@ -7,6 +7,7 @@ use std::alloc::Global;
 use std::fs;
 use std::fs::{File, Files};
 use std::thread::Threads;
+use store_types::BLOCK_LEN;
 use templates::format_image;
 use xn_kernel::{FlushStop, Fs, Kernel, Store};
 
@@ -56,7 +57,7 @@ fn flushed(kernel: &mut Kernel<FileLane>, alloc: Global) -> Result<u32> {
 
 /// Starts a block for a file system, makes it its root, and flushes.
 fn root_a_block(kernel: &mut Kernel<FileLane>, alloc: Global, fs: Fs) -> Result<(u32, u32)> {
-    let Ok((block, _)) = kernel.init(fs, 2, &[0x41; 512]) else {
+    let Ok((block, _)) = kernel.init(fs, 2, &[0x41; BLOCK_LEN]) else {
         return Err(anyhow!("no block"));
     };
     if kernel.make_root(fs, block).is_err() {
@@ -89,7 +90,7 @@ fn print_opener<R: Files<File = File> + Print>(rt: &R, alloc: Global) -> Result<
 
 /// Starts one block more, which is not flushed, and prints how many are free.
 fn print_pending(rt: &impl Print, kernel: &mut Kernel<FileLane>, fs: Fs) -> Result<()> {
-    let is_pending = kernel.init(fs, 2, &[0x42; 512]).is_ok();
+    let is_pending = kernel.init(fs, 2, &[0x42; BLOCK_LEN]).is_ok();
     let free = kernel.state().free();
     println!(rt; "one more is pending: {is_pending}, free: {free}")?;
     Ok(())

@@ -10,7 +10,7 @@ use Rattle.udf_verify.specs.Program.{Program, tree}
 use Rattle.udf_run.specs.declared.pair.Pair.{Pair}
 use Rattle.udf_run.specs.Meaning.{Machine, meaning, reset}
 use Rattle.templates.specs.Meaning.{numbers_of_pair, owned_by, pairs_after}
-use Rattle.xn_model.specs.declared.refusal.Refusal.{Refusal}
+use Rattle.store_types.specs.declared.refusal.Refusal.{Refusal}
 use Rattle.xn_model.specs.Calls.{kind_of, own_life, read_of}
 use Rattle.xn_model.specs.Lists.{blocks_of}
 use Rattle.xn_model.specs.Lives.{Life, StoreState, current}

@@ -7,7 +7,7 @@ use Rattle.std.specs.Prelude.{◌≡◌, ◌⊎◌, ◌<◌, ℕ, Result, Err, I
 use Rattle.xn_model.specs.Types.{Types}
 use Rattle.xn_model.specs.Lives.{StoreState}
 use Rattle.xn_model.specs.Rules.{IsIdle}
-use Rattle.xn_model.specs.declared.refusal.Refusal.{Refusal}
+use Rattle.store_types.specs.declared.refusal.Refusal.{Refusal}
 use Rattle.xn_kernel.specs.FlushedStates.{StateRefuses, StateWaves}
 use Rattle.ffs_format.specs.Library.{HasAnother}
 use Rattle.ffs_model.specs.Library.{IsLibrary}

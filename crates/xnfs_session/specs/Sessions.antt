@@ -6,7 +6,7 @@
 --     owner_of             a block's type, and the blocks that its newest bytes point to
 use Rattle.std.specs.Prelude.{ℕ, ◌+◌, Bool, true, false, List, Option, Some, Result, Ok, Err, ◌==◌, count_by, is_ok, if◌then◌else◌}
 use Rattle.std.specs.List.{range_with_len}
-use Rattle.xn_model.specs.declared.refusal.Refusal.{Refusal}
+use Rattle.store_types.specs.declared.refusal.Refusal.{Refusal}
 use Rattle.xn_model.specs.Calls.{own_life}
 use Rattle.xn_model.specs.Lists.{blocks_of}
 use Rattle.xn_model.specs.Lives.{StoreState, current}

@@ -8,7 +8,8 @@
 mod session;
 mod stopping;
 
+pub use ffs_format::inodes::MOST_INODES;
 pub use ffs_lib::{FfsFault, Fs, Repair, Repairs};
 pub use flush_store::FlushStore;
-pub use session::{Entry, Facts, MOST_BYTES, MOST_INODES, Node, Owner, Session, Usage, has_volume};
+pub use session::{Entry, Facts, MOST_BYTES, Node, Owner, Session, Usage, has_volume};
 pub use stopping::{Stop, TestLane};

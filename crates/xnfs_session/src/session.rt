@@ -25,7 +25,7 @@ ghost use Rattle.ffs_lib.specs.WriteOrder.{ShowsWhole, WritesSomeInOrder, after_
 ghost use Rattle.ffs_lib.specs.declared.data.Last.{Last};
 ghost use Rattle.xn_model.specs.Lives.{StoreState};
 ghost use Rattle.xn_model.specs.Calls.{free_of};
-ghost use Rattle.xn_model.specs.declared.refusal.Refusal.{Refusal};
+ghost use Rattle.store_types.specs.declared.refusal.Refusal.{Refusal};
 ghost use Rattle.xn_model.specs.Rules.{IsIdle};
 ghost use Rattle.xn_kernel.specs.FlushedStates.{KeepsNewest, StateRefuses, StateWaves};
 ghost use Rattle.xnfs_session.specs.Kept.{KeepsVolumes};
@@ -36,6 +36,7 @@ ghost use Rattle.xnfs_session.specs.Sessions.{entry_blocks, inode_blocks, name_b
 mod raw;
 
 use arrayvec::ArrayVec;
+use ffs_format::inodes::MOST_INODES;
 use ffs_format::is_name;
 use ffs_lib::{FfsFault, Fs, Repairs, Volume};
 use ffs_lookup::{
@@ -46,11 +47,9 @@ use flush_store::FlushStore;
 pub use raw::{Entry, Facts, has_volume};
 use std::alloc::{AllocError, Global};
 use std::marker::Model;
+use store_types::BLOCK_LEN;
 use udf_run::{Pair, owns};
 use xn_kernel::{Refusal, Store};
-
-/// How many inodes a volume has at most.
-pub const MOST_INODES: u16 = 128;
 
 /// How many bytes a file has at most.
 pub const MOST_BYTES: u32 = 71_680;
@@ -143,7 +142,7 @@ fn blocks_of(alloc: Global, pairs: &[Pair]) -> Result<Vec<u32>, AllocError>
 }
 
 /// What a block of an installed type points to, each block with its type.
-fn pairs_of<S: Store>(store: &S, ty: u32, bytes: &[u8; 512]) -> ArrayVec<Pair, 128>
+fn pairs_of<S: Store>(store: &S, ty: u32, bytes: &[u8; BLOCK_LEN]) -> ArrayVec<Pair, 128>
     requires { IsTrue ((S.types_of store.now).installed ty) }
     ensures { map numbers_of_pair result.items ≡ (S.types_of store.now).owned ty bytes.now }
 {

@@ -1,10 +1,11 @@
 // Lanes for tests: they write no more after some writes, as where the program is killed then, and may be left without syncs.
 
-use disk::{BLOCK_LEN, DeviceFault, Lane, Lanes};
+use disk::{DeviceFault, Lane, Lanes};
 use std::alloc::{AllocError, Global};
 use std::marker::Model;
 use std::sync::Arc;
 use std::sync::atomic::{AtomicBool, AtomicU64, Ordering};
+use store_types::BLOCK_LEN;
 
 /// How many writes the lanes of a disk may still make, and whether one more was asked for.
 struct Writes {

@@ -3,8 +3,8 @@ use Rattle.std.proofs.Common.{◌≡◌, ◌≤◌, ◌<◌, ◌+◌, ◌-◌, �
 use Rattle.std.specs.Prelude.{◌⊎◌, cond, is_some, not, ◌&&◌}
 use Rattle.std.proofs.lemmas.Bool.{cond_both, false≢true}
 use Rattle.std.proofs.lemmas.Option.{none-some}
-use Rattle.xn_model.specs.declared.refusal.Refusal.{Refusal}
-use Rattle.xn_model.specs.declared.refusal.Refusal.TheVariants.{InFlight, NoMemory, NotSynced}
+use Rattle.store_types.specs.declared.refusal.Refusal.{Refusal}
+use Rattle.store_types.specs.declared.refusal.Refusal.TheVariants.{InFlight, NoMemory, NotSynced}
 use Rattle.xn_model.specs.Images.{block_of}
 use Rattle.xn_model.specs.Lives.{Life, StoreState, life_at, alive_and}
 use Rattle.xn_model.specs.Calls.{init_of, propose_of, make_root_of, drop_root_of, forget_of, install_of, read_of, kind_of, begun_of, settled_of, pick_of}

@@ -5,8 +5,8 @@ use Rattle.std.specs.Io.KnownBytes.{Appends}
 use Rattle.xn_model.specs.Images.{blocks_in}
 use Rattle.image_model.specs.Walk.{block_at, count_of, verdict}
 use Rattle.image_model.specs.Report.{IsReport, IsSoundImage}
-use Rattle.image_model.specs.declared.fault.ImageFault.{ImageFault}
-use Rattle.image_model.specs.declared.fault.ImageFault.TheVariants.{NoMemory}
+use Rattle.store_types.specs.declared.image_fault.ImageFault.{ImageFault}
+use Rattle.store_types.specs.declared.image_fault.ImageFault.TheVariants.{NoMemory}
 use Rattle.templates.specs.Language.{types_of_image}
 use Rattle.xnsim_line.specs.Files.{Held, IsHeld}
 

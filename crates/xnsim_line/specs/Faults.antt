@@ -10,7 +10,7 @@ use Rattle.script.specs.declared.fault.ScriptFault.TheVariants as script
 use Rattle.xnsim_line.specs.declared.invocation.LineFault.{LineFault}
 use Rattle.xnsim_line.specs.declared.invocation.LineFault.TheVariants as line
 use Rattle.templates.specs.Faults as template
-use Rattle.image_model.specs.Faults as image
+use Rattle.store_types.specs.ImageFaults as image
 use Rattle.xnsim_line.specs.ProgramFaults.{program_fault_text}
 
 -- the status with which the program ends after a fault

@@ -19,14 +19,14 @@ use crate::replay::{run_on_image, run_script};
 use crate::{Fault, Files, Invocation};
 use bumpalo::Bump;
 use crash_check::count;
-use disk::{BLOCK_LEN, MAX_BLOCKS};
 use script::parse;
 use std::alloc::Global;
 use std::io::{ErrorKind, Read, Write};
 use std::thread::Threads;
 use std::{io, str};
+use store_types::{BLOCK_LEN, MAX_BLOCKS, MAX_FORMAT_BLOCKS, MIN_BLOCKS};
 use system_files::Access;
-use templates::{MAX_FORMAT_BLOCKS, MIN_BLOCKS, write_block};
+use templates::write_block;
 use udf_verify::Role;
 
 /// How many bytes the image of the largest disk has that is run.

@@ -2,10 +2,10 @@ ghost use Rattle.std.specs.Prelude.{◌≡◌};
 
 use crate::invocation::LineFault;
 use crate::program_fault::ProgramFault;
-use image_model::ImageFault;
 use script::ScriptFault;
 use std::alloc::{AllocError, AllocFailed};
 use std::io;
+use store_types::ImageFault;
 use templates::TemplateFault;
 use thiserror::Error;
 

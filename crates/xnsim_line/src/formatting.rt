@@ -8,9 +8,9 @@ ghost use Rattle.xnsim_line.specs.Files.{AreHeld, IsHeld};
 ghost use Rattle.xnsim_line.specs.Formatting.{installed, IsBlockFault, IsFileFault, IsImageFault, AreTemplates};
 
 use crate::{Fault, Files};
-use disk::BLOCK_LEN;
 use ffs_format::templates as file_system_templates;
 use std::alloc::Global;
+use store_types::BLOCK_LEN;
 use templates::{FormatFault, Template, TemplateFault, format_image, read_block};
 
 /// The block in the file of this name, which has 512 bytes.
@@ -18,7 +18,7 @@ fn read_file<'a, F: Files>(
     alloc: Global,
     files: &mut F,
     name: &'a str,
-) -> Result<[u8; 512], Fault<'a>>
+) -> Result<[u8; BLOCK_LEN], Fault<'a>>
     ensures held { IfOk result (λ block. IsHeld (F.held files.old) name.entry.now block) }
     ensures kept { F.held files.new ≡ F.held files.old }
     ensures fault { IfErr result (λ fault. fault ≡ Fault.CannotRead name.entry) }
@@ -26,7 +26,7 @@ fn read_file<'a, F: Files>(
     let bytes = files
         .read_start(alloc, name, BLOCK_LEN + 1)
         .ok_or(Fault::CannotRead(name))?;
-    match <[u8; 512]>::try_from(bytes.as_slice()) {
+    match <[u8; BLOCK_LEN]>::try_from(bytes.as_slice()) {
         Ok(block) => Ok(block),
         Err(_) => Err(Fault::CannotRead(name)),
     }
@@ -37,7 +37,7 @@ pub fn read_files<'a, F: Files>(
     alloc: Global,
     files: &mut F,
     names: &'a [String],
-) -> Result<Vec<[u8; 512]>, Fault<'a>>
+) -> Result<Vec<[u8; BLOCK_LEN]>, Fault<'a>>
     ensures held { IfOk result (λ blocks. AreHeld (F.held files.old) (map string_bytes names.entry.now) blocks.items) }
     ensures kept { F.held files.new ≡ F.held files.old }
     ensures fault { IfErr result (IsFileFault (map string_bytes names.entry.now)) }
@@ -51,7 +51,7 @@ pub fn read_files<'a, F: Files>(
 }
 
 /// The templates that blocks spell, in their order.
-fn read_templates<'a>(alloc: Global, blocks: &[[u8; 512]]) -> Result<Vec<Template>, Fault<'a>>
+fn read_templates<'a>(alloc: Global, blocks: &[[u8; BLOCK_LEN]]) -> Result<Vec<Template>, Fault<'a>>
     ensures templates { IfOk result (λ templates. AreTemplates blocks.now templates.items) }
     ensures fault { IfErr result (IsBlockFault blocks.now) }
 {
@@ -69,7 +69,7 @@ fn read_templates<'a>(alloc: Global, blocks: &[[u8; 512]]) -> Result<Vec<Templat
 pub fn all_templates<'a>(
     alloc: Global,
     file_system: bool,
-    blocks: &[[u8; 512]],
+    blocks: &[[u8; BLOCK_LEN]],
 ) -> Result<Vec<Template>, Fault<'a>>
     ensures templates { IfOk result (λ templates. (own : List TemplateValue) × AreTemplates blocks.now own × (templates.items ≡ installed file_system own)) }
     ensures fault { IfErr result (IsBlockFault blocks.now) }

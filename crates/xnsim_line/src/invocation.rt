@@ -13,7 +13,7 @@ use clap::error::ErrorKind;
 use clap::{Arg, ArgMatches, Command, Error};
 use script::parse_number;
 use std::alloc::{AllocError, Global};
-use templates::{MAX_FORMAT_BLOCKS, MIN_BLOCKS};
+use store_types::{MAX_FORMAT_BLOCKS, MIN_BLOCKS};
 use udf_verify::Role;
 
 /// Where a run ends that doesn't come to its script's end.

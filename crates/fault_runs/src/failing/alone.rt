@@ -7,6 +7,7 @@ use crash_check::{ImageFault, mount};
 use disk::{Lane, Lanes};
 use std::alloc::Global;
 use std::thread::Threads;
+use store_types::BLOCK_LEN;
 use xn_kernel::{DrainStop, FlushStop, Fs, Kernel, Refusal, Store, Ticket};
 
 /// How all that is pending is written.
@@ -144,7 +145,7 @@ fn take<L: Lane + Drop>(
 ) -> bool {
     match step {
         Step::Install(ty) => kernel.install(&template_of(ty)).is_ok(),
-        Step::Init(ty, byte) => kernel.init(fs, ty, &[byte; 512]).is_ok(),
+        Step::Init(ty, byte) => kernel.init(fs, ty, &[byte; BLOCK_LEN]).is_ok(),
         Step::Edit(block, first, add, drop) => match edit_of(alloc, first, add, drop) {
             Ok(edit) => kernel.propose(fs, block, &edit).is_ok(),
             Err(_) => false,

@@ -15,6 +15,7 @@ use std::alloc::Global;
 use std::marker::Brand;
 use std::sync::Wait;
 use std::thread::{Threads, join, map_indices};
+use store_types::BLOCK_LEN;
 use xn_kernel::{FlushStop, Fs, Kernel, Refusal, Store, Ticket};
 
 /// How many edits each worker makes.
@@ -54,7 +55,7 @@ fn are_rooted<L: Lane>(kernel: &mut Kernel<L>) -> bool {
         let Some(fs) = Fs::new(number) else {
             return false;
         };
-        let Ok((block, _)) = kernel.init(fs, 2, &[number; 512]) else {
+        let Ok((block, _)) = kernel.init(fs, 2, &[number; BLOCK_LEN]) else {
             return false;
         };
         if kernel.make_root(fs, block).is_err() {

@@ -1,6 +1,7 @@
 // What two file systems do: blocks that own others are started, attached, edited and dropped, and types are installed.
 
 use std::alloc::{AllocError, Global};
+use store_types::BLOCK_LEN;
 use xn_kernel::{Edit, Patch};
 
 /// A call of a file system, or the writing of all that is pending.
@@ -54,8 +55,8 @@ static CHAIN: [u8; 28] = [
 ];
 
 /// The block of that template, whose blocks own blocks of this type.
-pub fn template_of(ty: u8) -> [u8; 512] {
-    let mut block = [0; 512];
+pub fn template_of(ty: u8) -> [u8; BLOCK_LEN] {
+    let mut block = [0; BLOCK_LEN];
     block[..CHAIN.len()].copy_from_slice(&CHAIN);
     block[14] = ty;
     block

@@ -2,8 +2,9 @@
 
 ghost use Rattle.disk.specs.Mem.{memory_leaves};
 
-use disk::{BLOCK_LEN, DeviceFault, Lane, Lanes, MemLane, fresh_lanes};
+use disk::{DeviceFault, Lane, Lanes, MemLane, fresh_lanes};
 use std::alloc::Global;
+use store_types::BLOCK_LEN;
 
 /// How many blocks a disk has.
 pub const BLOCKS: u32 = 32;

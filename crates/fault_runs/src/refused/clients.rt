@@ -13,6 +13,7 @@ use std::alloc::Global;
 use std::marker::Brand;
 use std::sync::Wait;
 use std::thread::Threads;
+use store_types::BLOCK_LEN;
 use templates::format_image;
 use xn_kernel::{Answer, Call, Fs, Kernel, Refusal};
 
@@ -44,7 +45,7 @@ fn has_answer<K: Naming, R: Wait>(
     let shared: Shared<MemLane, Open, K> = Shared::new(hub, floor, Open);
     let calls = [Call::Init {
         ty: 2,
-        bytes: [7; 512],
+        bytes: [7; BLOCK_LEN],
     }];
     let answers = match worker(&shared, rt, alloc, fs, &calls) {
         Ok(answers) => answers,

@@ -10,8 +10,8 @@ use crash_check::{ImageFault, check, mount};
 use disk::{MemDisk, fresh_lanes};
 use std::alloc::{AllocError, Global};
 use std::thread::Threads;
+use store_types::Refusal;
 use templates::{Table, builtin, format_image};
-use xn_model::Refusal;
 use xn_state::law::fresh_disks_are_found;
 use xn_state::{Found, Fs, State};
 

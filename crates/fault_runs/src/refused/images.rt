@@ -3,9 +3,9 @@
 use ffs_lib::{FfsFault, Fs};
 use std::alloc::Global;
 use std::thread::Threads;
+use store_types::Refusal;
 use volume_pair::{Action, Disk, Files};
 use world::Running;
-use xn_model::Refusal;
 
 /// How many blocks a disk has.
 const BLOCKS: u32 = 32;

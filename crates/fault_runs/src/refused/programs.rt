@@ -3,6 +3,7 @@
 use crate::refused::tally::count;
 use arrayvec::ArrayVec;
 use std::alloc::Global;
+use store_types::BLOCK_LEN;
 use templates::{
     Table, Template, count_of, empty_place, format_image, mark_is_right, pointer, root_slot,
     with_pointer, with_root_slot, write_block,
@@ -20,7 +21,7 @@ pub struct Programs {
     owns: Checked,
     size: Checked,
     table: Table,
-    root: [u8; 512],
+    root: [u8; BLOCK_LEN],
 }
 
 impl Programs {
@@ -33,7 +34,7 @@ impl Programs {
             return None;
         }
         let image = format_image(alloc, 32, &[]).ok()?;
-        let (blocks, _) = image.as_chunks::<512>();
+        let (blocks, _) = image.as_chunks::<BLOCK_LEN>();
         Some(Programs {
             root: *blocks.first()?,
             owns: verify(alloc, &words, Role::Owns).ok()?,
@@ -54,13 +55,13 @@ impl Programs {
             && words.as_slice() == self.words.as_slice();
         let is_judged = well_formed(&self.words).is_ok() && judge(&self.words, Role::Owns).is_ok();
         let mut pairs = ArrayVec::<Pair, 128>::new();
-        owns(&self.owns, &[1; 512], &mut pairs);
+        owns(&self.owns, &[1; BLOCK_LEN], &mut pairs);
         let pair = Pair {
             block: 0x0101_0101,
             ty: 3,
         };
         let is_owner = pairs.as_slice() == [pair].as_slice();
-        let end = size(&self.size, &[1; 512]);
+        let end = size(&self.size, &[1; BLOCK_LEN]);
         count(&[is_read, is_judged, is_owner, end == 4])
     }
 

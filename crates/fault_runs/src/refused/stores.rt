@@ -10,6 +10,7 @@ use durable_floor::{Floor, Naming, Reader};
 use shared::Hub;
 use std::alloc::Global;
 use std::thread::Threads;
+use store_types::BLOCK_LEN;
 use xn_kernel::{DrainStop, Fs, Kernel, Landed, Refusal, Store, Ticket};
 
 /// A kernel in which file system 0 has a durable block, 1, in its root slot and a fresh one, 2, and file system 1 has two fresh ones, 3
@@ -67,7 +68,7 @@ impl Blocks {
 /// How many of 5 looks at such a kernel find what they should.
 fn kernel_looks<L: Lane>(kernel: &Kernel<L>, first: Fs, second: Fs) -> u32 {
     count(&[
-        kernel.read(first, 1) == Ok(&[1; 512]) && kernel.root(first) == Some(1),
+        kernel.read(first, 1) == Ok(&[1; BLOCK_LEN]) && kernel.root(first) == Some(1),
         kernel.kind(first, 1) == Ok(2) && !kernel.state().tainted(1),
         kernel.template(1).is_some() && kernel.template(3).is_none(),
         kernel.pending(second) == 2 && kernel.floor(second) == 2,
@@ -90,16 +91,16 @@ fn kernel_changes<L: Lane + Drop>(kernel: &mut Kernel<L>, fs: Fs) -> [bool; 3] {
 
 /// Starts block 1, makes it the root and durable; whether all was done.
 fn is_rooted<L: Lane + Drop>(kernel: &mut Kernel<L>, fs: Fs) -> bool {
-    kernel.init(fs, 2, &[1; 512]).is_ok()
+    kernel.init(fs, 2, &[1; BLOCK_LEN]).is_ok()
         && kernel.make_root(fs, 1).is_ok()
         && is_drained(kernel.drain(), 2)
 }
 
 /// Starts blocks 2, 3 and 4; whether all was done.
 fn are_fresh<L: Lane>(kernel: &mut Kernel<L>, first: Fs, second: Fs) -> bool {
-    kernel.init(first, 2, &[2; 512]).is_ok()
-        && kernel.init(second, 2, &[3; 512]).is_ok()
-        && kernel.init(second, 2, &[4; 512]).is_ok()
+    kernel.init(first, 2, &[2; BLOCK_LEN]).is_ok()
+        && kernel.init(second, 2, &[3; BLOCK_LEN]).is_ok()
+        && kernel.init(second, 2, &[4; BLOCK_LEN]).is_ok()
 }
 
 /// Whether there are so many lanes, and that of a block is taken out and put back. Its block ends with a byte that is no 0.
@@ -117,7 +118,7 @@ fn is_given_back(lanes: Lanes<MemLane>, blocks: usize, block: u32) -> bool {
 /// How many of 5 looks at such a kernel in a hub find what they should.
 pub fn hub_looks<L: Lane, K: Naming>(hub: &Hub<L, K>, first: Fs, second: Fs) -> u32 {
     count(&[
-        hub.read(first, 1) == Ok(&[1; 512]) && hub.root(first) == Some(1),
+        hub.read(first, 1) == Ok(&[1; BLOCK_LEN]) && hub.root(first) == Some(1),
         hub.kind(first, 1) == Ok(2) && !hub.kernel().state().tainted(1),
         hub.template(1).is_some() && hub.template(3).is_none(),
         hub.pending(second) == 2 && hub.floor(second) == 2,

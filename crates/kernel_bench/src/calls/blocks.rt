@@ -3,11 +3,12 @@
 use crate::calls::writes::drain;
 use disk::MemLane;
 use std::alloc::{AllocError, Global};
+use store_types::BLOCK_LEN;
 use xn_kernel::{Edit, Fs, Kernel, Patch, Store};
 
 /// A block of data in a file system's root slot, durable; `None` where that was refused.
 pub fn rooted_data(kernel: &mut Kernel<MemLane>, fs: Fs) -> Option<u32> {
-    let (block, _) = kernel.init(fs, 2, &[0; 512]).ok()?;
+    let (block, _) = kernel.init(fs, 2, &[0; BLOCK_LEN]).ok()?;
     let _ = kernel.make_root(fs, block).ok()?;
     if drain(kernel) { Some(block) } else { None }
 }
@@ -33,7 +34,7 @@ fn attach(
     offset: u16,
     ty: u32,
 ) -> Result<Option<u32>, AllocError> {
-    let Ok((block, _)) = kernel.init(fs, ty, &[0; 512]) else {
+    let Ok((block, _)) = kernel.init(fs, ty, &[0; BLOCK_LEN]) else {
         return Ok(None);
     };
     match kernel.propose(fs, to, &pointer_edit(alloc, offset, block, ty)?) {
@@ -48,7 +49,7 @@ pub fn full_inodes(
     kernel: &mut Kernel<MemLane>,
     fs: Fs,
 ) -> Result<Option<u32>, AllocError> {
-    let Ok((root, _)) = kernel.init(fs, 3, &[0; 512]) else {
+    let Ok((root, _)) = kernel.init(fs, 3, &[0; BLOCK_LEN]) else {
         return Ok(None);
     };
     if kernel.make_root(fs, root).is_err() {

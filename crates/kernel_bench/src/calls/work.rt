@@ -3,6 +3,7 @@
 use crate::calls::writes::{drain, write};
 use disk::MemLane;
 use std::alloc::{AllocError, Global};
+use store_types::BLOCK_LEN;
 use xn_kernel::{Edit, Fs, Kernel, Patch, Store};
 
 /// What is made many times.
@@ -89,7 +90,7 @@ fn counts(kernel: &Kernel<MemLane>, count: u32) -> u32 {
 fn inits(kernel: &mut Kernel<MemLane>, fs: Fs, count: u32) -> u32 {
     let mut done = 0u32;
     for _ in 0..count {
-        let Ok((block, _)) = kernel.init(fs, 2, &[0; 512]) else {
+        let Ok((block, _)) = kernel.init(fs, 2, &[0; BLOCK_LEN]) else {
             continue;
         };
         if kernel.forget(fs, block).is_ok() {

@@ -2,7 +2,8 @@
 
 use ffs_format::templates;
 use std::alloc::{AllocError, Global};
-use templates::{MAX_FORMAT_BLOCKS, format_image};
+use store_types::MAX_FORMAT_BLOCKS;
+use templates::format_image;
 
 /// How many blocks the disk has.
 const COUNT: usize = MAX_FORMAT_BLOCKS as usize;

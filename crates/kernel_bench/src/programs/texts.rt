@@ -3,6 +3,7 @@
 ghost use Rattle.std.specs.Prelude.{◌<◌, ℕ, slice_index};
 
 use std::alloc::{AllocError, Global};
+use store_types::BLOCK_LEN;
 
 /// The owns program of block 0: 391 steps and 48 pairs on a block whose pointers are all set.
 pub const CATALOGUE: &str = "\
@@ -32,10 +33,10 @@ pub fn long_text(alloc: Global) -> Result<String, AllocError> {
 }
 
 /// A block none of whose bytes is zero.
-pub fn full_block() -> [u8; 512]
+pub fn full_block() -> [u8; BLOCK_LEN]
     ensures { (i : ℕ) → i < 512 → 0 < slice_index result i }
 {
-    let mut block = [0; 512];
+    let mut block = [0; BLOCK_LEN];
     for i in 0..512 {
         block[i] = (i % 251 + 1) as u8;
     }

@@ -6,6 +6,7 @@ use disk::{DeviceFault, Lane, Lanes, MemLane, fresh_lanes};
 use std::alloc::{AllocError, Global};
 use std::thread;
 use std::time::Duration;
+use store_types::BLOCK_LEN;
 use templates::format_image;
 
 /// A lane in memory whose writes take so many microseconds.
@@ -50,11 +51,11 @@ impl Lane for WaitingLane {
         self.lane.faults()
     }
 
-    fn read(&mut self, into: &mut [u8; 512]) -> Result<(), DeviceFault> {
+    fn read(&mut self, into: &mut [u8; BLOCK_LEN]) -> Result<(), DeviceFault> {
         self.lane.read(into)
     }
 
-    fn write(&mut self, from: &[u8; 512]) -> Result<(), DeviceFault> {
+    fn write(&mut self, from: &[u8; BLOCK_LEN]) -> Result<(), DeviceFault> {
         if self.micros > 0 {
             thread::sleep(&self.clock, Duration::from_micros(self.micros));
         }

@@ -14,6 +14,7 @@ use std::alloc::{AllocError, Global};
 use std::marker::Brand;
 use std::sync::{Arc, Wait};
 use std::thread::{Threads, join};
+use store_types::BLOCK_LEN;
 use xn_kernel::{Fs, Kernel, Store};
 
 /// A kernel that threads may share, with a floor that nobody has raised.
@@ -39,7 +40,7 @@ fn start<K: Naming, R: Wait>(rt: &R, shared: &Kernels<K>) -> bool {
             let block = u32::from(number) + 1;
             let (made, rooted) = shared.with(
                 rt,
-                |hub| (hub.init(fs, 2, &[0; 512]), hub.make_root(fs, block)),
+                |hub| (hub.init(fs, 2, &[0; BLOCK_LEN]), hub.make_root(fs, block)),
             );
             is_done = is_done && made.is_ok() && rooted.is_ok();
         }

@@ -8,6 +8,7 @@ ghost use Rattle.shared.specs.Hubs.{with_store};
 use crate::hub::Hub;
 use disk::Lane;
 use durable_floor::Naming;
+use store_types::BLOCK_LEN;
 use templates::Template;
 use xn_kernel::{Edit, EditId, Fs, Refusal, Store};
 
@@ -20,7 +21,7 @@ impl<L: Lane, K: Naming> Store for Hub<L, K> {
 
     ghost with_state = { with_store };
 
-    fn init(&mut self, fs: Fs, ty: u32, bytes: &[u8; 512]) -> Result<(u32, EditId), Refusal> {
+    fn init(&mut self, fs: Fs, ty: u32, bytes: &[u8; BLOCK_LEN]) -> Result<(u32, EditId), Refusal> {
         self.kernel.init(fs, ty, bytes)
     }
 
@@ -36,7 +37,7 @@ impl<L: Lane, K: Naming> Store for Hub<L, K> {
         self.kernel.forget(fs, block)
     }
 
-    fn read(&self, fs: Fs, block: u32) -> Result<&[u8; 512], Refusal> {
+    fn read(&self, fs: Fs, block: u32) -> Result<&[u8; BLOCK_LEN], Refusal> {
         self.kernel.read(fs, block)
     }
 

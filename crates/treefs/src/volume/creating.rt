@@ -10,15 +10,14 @@ use crate::beginning::begin_one;
 use crate::memory::{naming_entry, note_replaced, now_times, touch_naming};
 use crate::volume::Volume;
 use std::alloc::Global;
+use store_types::BLOCK_LEN;
 use treefs_edits::{Memory, Tree, carry_out, has_room, lacks_memory};
 use treefs_format::inodes::new_inode;
+use treefs_format::types::LEAF_TYPE;
 use treefs_format::{Fields, Kind};
 use treefs_model::Fault;
 use treefs_name_plans::{CommitPlan, MakingNew, NewPlan, plan_new};
 use xn_state::Store;
-
-/// The type of leaves.
-const LEAF: u8 = 2;
 
 /// What a new inode says before its pointers. `parent` is the directory that a directory stands in, else 0.
 fn new_fields(
@@ -33,7 +32,7 @@ fn new_fields(
     ensures { result ≡ new_fields tree memory.now kind attributes parent size }
 {
     Fields {
-        leaf_type: LEAF,
+        leaf_type: LEAF_TYPE,
         node_type: tree.node_type,
         mode: kind.mode(attributes.permissions),
         links: 1,
@@ -55,7 +54,7 @@ fn new_block(
     attributes: Attributes,
     parent: u32,
     content: &[u8],
-) -> [u8; 512]
+) -> [u8; BLOCK_LEN]
     requires permissions { attributes.permissions < 4096 }
     requires short { length content.now ≤ 384 }
     ensures { result ≡ inode_bytes (new_fields tree memory.now kind attributes parent (length content.now)) content.now }
@@ -70,7 +69,7 @@ fn begin_block<S: Store>(
     store: &mut S,
     tree: Tree,
     memory: &Memory,
-    inode: &[u8; 512],
+    inode: &[u8; BLOCK_LEN],
 ) -> Result<u32, Fault>
     ensures types { S.types_of store.new ≡ S.types_of store.old }
     ensures does { BeginsInRoom (S.types_of store.old) tree.fs.number (length memory.now.touched) (record { ty = tree.inode_type; bytes = inode.now })
@@ -108,7 +107,7 @@ impl Volume {
         store: &mut S,
         directory: u32,
         name: &[u8],
-        inode: &[u8; 512],
+        inode: &[u8; BLOCK_LEN],
     ) -> Result<NewPlan, Fault>
         ensures types { S.types_of store.new ≡ S.types_of store.old }
         ensures does { NewDoes (S.types_of store.old) (S.state_of store.old) (S.state_of store.new) self.old self.new directory name.now inode.now result }

@@ -10,6 +10,7 @@ use ffs_format::templates;
 use ffs_lib::Fs;
 use std::alloc::{AllocError, Global};
 use std::thread::Threads;
+use store_types::BLOCK_LEN;
 use world::{Event, Reply, Running, World};
 
 impl Files<Running> {
@@ -59,7 +60,7 @@ impl Files<Running> {
     }
 
     /// Installs a template; whether that was done.
-    pub fn install(&mut self, template: &[u8; 512]) -> bool {
+    pub fn install(&mut self, template: &[u8; BLOCK_LEN]) -> bool {
         matches!(self.step(&Event::Install(*template)), Reply::Installed(_))
     }
 

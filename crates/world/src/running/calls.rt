@@ -9,6 +9,7 @@ ghost use Rattle.world.specs.Worlds.{world_with};
 
 use crate::running::Running;
 use std::alloc::Allocator;
+use store_types::BLOCK_LEN;
 use xn_kernel::DrainStop;
 use xn_state::{Answer, Call, Fs, Reply, Stopped, Store};
 
@@ -51,7 +52,7 @@ impl<A: Allocator> Running<A> {
 
     /// A template is installed.
     #[inline(never)]
-    pub(crate) fn install(&mut self, template: &[u8; 512], reply: &mut Reply)
+    pub(crate) fn install(&mut self, template: &[u8; BLOCK_LEN], reply: &mut Reply)
         ensures { model.Step (world_with self.old) (model.Install template.now) (reply_of reply.new) (world_with self.new) }
     {
         *reply = match self.kernel.install(template) {

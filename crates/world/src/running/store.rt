@@ -7,8 +7,8 @@ ghost use Rattle.world.specs.Worlds.{WorldValue};
 
 use crate::running::Running;
 use std::alloc::Allocator;
+use store_types::{BLOCK_LEN, Refusal};
 use templates::Template;
-use xn_model::Refusal;
 use xn_state::{Edit, EditId, Fs, Store};
 
 impl<A: Allocator> Store for Running<A> {
@@ -20,7 +20,7 @@ impl<A: Allocator> Store for Running<A> {
 
     ghost with_state = { λ running state. record running { state = state } };
 
-    fn init(&mut self, fs: Fs, ty: u32, bytes: &[u8; 512]) -> Result<(u32, EditId), Refusal> {
+    fn init(&mut self, fs: Fs, ty: u32, bytes: &[u8; BLOCK_LEN]) -> Result<(u32, EditId), Refusal> {
         self.kernel.init(fs, ty, bytes)
     }
 
@@ -36,7 +36,7 @@ impl<A: Allocator> Store for Running<A> {
         self.kernel.forget(fs, block)
     }
 
-    fn read(&self, fs: Fs, block: u32) -> Result<&[u8; 512], Refusal> {
+    fn read(&self, fs: Fs, block: u32) -> Result<&[u8; BLOCK_LEN], Refusal> {
         self.kernel.read(fs, block)
     }
 

@@ -9,6 +9,7 @@ ghost use Rattle.xn_kernel.specs.Kernels.{KernelValue};
 
 use crate::kernel::Kernel;
 use disk::Lane;
+use store_types::BLOCK_LEN;
 use xn_state::{Installed, Refusal};
 
 impl<L: Lane> Kernel<L> {
@@ -18,7 +19,7 @@ impl<L: Lane> Kernel<L> {
     /// in this order, a catalogue with 16 templates (`NoSlot`), 64 pending entries of block 0 (`TooManyPending`), fewer than two
     /// numbers left (`Exhausted`), no free block (`NoSpace`), bytes that are no template's block (`BadTemplate`), last
     /// `NoMemory`. A refusal changes nothing.
-    pub fn install(&mut self, template: &[u8; 512]) -> Result<Installed, Refusal>
+    pub fn install(&mut self, template: &[u8; BLOCK_LEN]) -> Result<Installed, Refusal>
         ensures state { Gives (install_of language self.old.state template.now) self.old.state self.new.state (result_map installed_of result) }
         ensures second { IfOk result (λ made. made.edits.1 ≡ made.edits.0 + 1) }
         ensures rest { self.new ≡ record self.old { state = self.new.state } }

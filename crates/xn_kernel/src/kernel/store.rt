@@ -7,6 +7,7 @@ ghost use Rattle.xn_kernel.specs.Kernels.{KernelValue};
 
 use crate::kernel::Kernel;
 use disk::Lane;
+use store_types::BLOCK_LEN;
 use templates::Template;
 use xn_state::{Edit, EditId, Fs, Refusal, Store};
 
@@ -19,7 +20,7 @@ impl<L: Lane> Store for Kernel<L> {
 
     ghost with_state = { λ kernel state. record kernel { state = state } };
 
-    fn init(&mut self, fs: Fs, ty: u32, bytes: &[u8; 512]) -> Result<(u32, EditId), Refusal> {
+    fn init(&mut self, fs: Fs, ty: u32, bytes: &[u8; BLOCK_LEN]) -> Result<(u32, EditId), Refusal> {
         let made = self.state.init(fs, ty, bytes);
         self.keeps_rules();
         made
@@ -43,7 +44,7 @@ impl<L: Lane> Store for Kernel<L> {
         done
     }
 
-    fn read(&self, fs: Fs, block: u32) -> Result<&[u8; 512], Refusal> {
+    fn read(&self, fs: Fs, block: u32) -> Result<&[u8; BLOCK_LEN], Refusal> {
         self.keeps_rules();
         self.state.read(fs, block)
     }

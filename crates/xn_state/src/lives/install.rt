@@ -11,6 +11,7 @@ use crate::lives::Lives;
 use block_cache::{Claim, NewBytes};
 use edit_list::{EditId, Undo};
 use std::alloc::{AllocError, Global};
+use store_types::BLOCK_LEN;
 use templates::TEMPLATE_TYPE;
 
 impl Lives {
@@ -22,8 +23,8 @@ impl Lives {
         alloc: Global,
         block: u32,
         number: EditId,
-        template: &[u8; 512],
-        root: &[u8; 512],
+        template: &[u8; BLOCK_LEN],
+        root: &[u8; BLOCK_LEN],
         undo: Undo,
     ) -> Result<(), AllocError>
         requires free { lowest_free self.old ≡ Some block }

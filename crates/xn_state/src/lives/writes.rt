@@ -11,7 +11,7 @@ ghost use Rattle.dependencies.specs.Index.{MayFree};
 
 use crate::lives::Lives;
 use block_cache::{Cache, LiveBlock};
-use xn_model::Refusal;
+use store_types::{BLOCK_LEN, Refusal};
 
 impl Lives {
     /// How many entries a write of a block carries that begins now.
@@ -39,7 +39,7 @@ impl Lives {
 
     /// What the first pending entries of a block leave.
     #[inline(always)]
-    pub fn image(&self, block: u32, count: u32) -> [u8; 512]
+    pub fn image(&self, block: u32, count: u32) -> [u8; BLOCK_LEN]
         requires some { 1 ≤ count }
         requires within { count ≤ life_pending (life_at self.now block) }
         ensures { IfSome (life_at self.now block) (λ l. result ≡ image_at count l) }
@@ -49,7 +49,11 @@ impl Lives {
 
     /// How many entries the bytes that are read back make durable, or where there are none the newest ones.
     #[inline(always)]
-    pub fn settled_unless(&self, block: u32, other: Option<&[u8; 512]>) -> Result<u32, Refusal>
+    pub fn settled_unless(
+        &self,
+        block: u32,
+        other: Option<&[u8; BLOCK_LEN]>,
+    ) -> Result<u32, Refusal>
         ensures count { result ≡ settled_place (unwrap_or (option_copied other.entry) (life_bytes (life_at self.now block))) (slice_get self.now block) }
         ensures within { IfOk result (λ count. count ≤ life_pending (life_at self.now block)) }
         ensures few { IfOk result (λ count. count ≤ 64) }
@@ -91,7 +95,7 @@ impl Lives {
 }
 
 /// How many entries of a life the bytes that are read back make durable. Where no state of it is known to be on the disk, it may hold any.
-fn settled(life: &LiveBlock<'_>, bytes: &[u8; 512]) -> Result<u32, Refusal>
+fn settled(life: &LiveBlock<'_>, bytes: &[u8; BLOCK_LEN]) -> Result<u32, Refusal>
     ensures count { result ≡ settled_count life.now bytes.now life.now.begun }
     ensures within { IfOk result (λ count. count ≤ length life.now.pending) }
     ensures few { IfOk result (λ count. count ≤ 64) }

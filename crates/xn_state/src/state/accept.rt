@@ -13,8 +13,8 @@ ghost use Rattle.xn_state.specs.States.{Continues, own_types};
 use crate::state::State;
 use block_cache::{Claim, NewBytes};
 use edit_list::{EditId, Fs, Undo};
+use store_types::Refusal;
 use udf_run::ReadSet;
-use xn_model::Refusal;
 
 /// What an entry claims: the blocks that it adds, each with its type, those that it drops, and the entry that it comes after.
 pub(crate) struct Claims<'a> {

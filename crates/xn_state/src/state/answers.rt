@@ -10,14 +10,14 @@ ghost use Rattle.xn_state.specs.States.{own_types};
 
 use crate::state::State;
 use edit_list::{EditId, Fs};
+use store_types::{BLOCK_LEN, Refusal};
 use templates::{Template, root_slot};
-use xn_model::Refusal;
 
 impl State {
     /// The current bytes of a block of the file system: those of its newest pending entry, or where none is pending the durable
     /// ones. Refused are, in this order, a block past the end of the disk (`NoSuchBlock`), a free or dropped one (`NotInUse`), and
     /// one of another file system or of nobody (`NotYours`).
-    pub fn read(&self, fs: Fs, block: u32) -> Result<&[u8; 512], Refusal>
+    pub fn read(&self, fs: Fs, block: u32) -> Result<&[u8; BLOCK_LEN], Refusal>
         ensures { Lends (read_of self.now fs.number block) result }
     {
         Ok(self.lives.own(fs, block)?.current())

@@ -10,7 +10,7 @@ ghost use Rattle.xn_state.specs.States.{own_types};
 use crate::state::State;
 use block_cache::Facts;
 use edit_list::Fs;
-use xn_model::Refusal;
+use store_types::Refusal;
 
 impl State {
     /// Whether a block of the file system may be forgotten, or the first refusal of `forget` that applies.

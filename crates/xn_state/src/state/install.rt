@@ -13,10 +13,10 @@ use crate::installed::Installed;
 use crate::root::pointer_undo;
 use crate::state::State;
 use edit_list::{EditId, Undo};
+use store_types::{BLOCK_LEN, Refusal};
 use templates::{
     FIRST_INSTALLED_TYPE, Template, TemplateFault, empty_place, read_block, with_pointer,
 };
-use xn_model::Refusal;
 
 /// Why no template is installed from a block with this fault.
 fn template_refusal(fault: TemplateFault) -> Refusal
@@ -54,7 +54,7 @@ impl State {
     }
 
     /// The template in a block. Memory is wanting only where there is one.
-    fn read_template(&self, template: &[u8; 512]) -> Result<Template, Refusal>
+    fn read_template(&self, template: &[u8; BLOCK_LEN]) -> Result<Template, Refusal>
         ensures { MatchResult result
             (λ read. template_of_bytes template.now ≡ Ok read)
             (λ refusal. ((refusal ≡ Refusal.BadTemplate) × (language template.now ≡ None)) ⊎
@@ -67,7 +67,7 @@ impl State {
     }
 
     /// Block 0's bytes with a place of the catalogue that names a block, and what undoes that.
-    fn named_root(&self, place: usize, block: u32) -> Result<([u8; 512], Undo), Refusal>
+    fn named_root(&self, place: usize, block: u32) -> Result<([u8; BLOCK_LEN], Undo), Refusal>
         requires { place < 16 }
         ensures bytes { IfOk result (λ named. named.0 ≡ with_pointer (root_now self.now) place block) }
         ensures undoes { IfOk result (λ named. patched named.0 named.1 ≡ root_now self.now) }
@@ -86,7 +86,7 @@ impl State {
     /// in this order, a catalogue with 16 templates (`NoSlot`), 64 pending entries of block 0 (`TooManyPending`), fewer than two
     /// numbers left (`Exhausted`), no free block (`NoSpace`), bytes that are no template's block (`BadTemplate`), last
     /// `NoMemory`. A refusal changes nothing.
-    pub fn install(&mut self, template: &[u8; 512]) -> Result<Installed, Refusal>
+    pub fn install(&mut self, template: &[u8; BLOCK_LEN]) -> Result<Installed, Refusal>
         ensures state { Gives (install_of language self.old template.now) self.old self.new (result_map installed_of result) }
         ensures second { IfOk result (λ made. made.edits.1 ≡ made.edits.0 + 1) }
     {

@@ -16,12 +16,12 @@ ghost use Rattle.udf_run.specs.Safe.{IsBlock};
 ghost use Rattle.xn_state.specs.States.{own_types};
 
 use crate::state::accept::Claims;
-use crate::state::{DATA_TYPE, State, is_within_size};
+use crate::state::{State, is_within_size};
 use block_cache::{Facts, NewBytes};
 use claims::{are_blocks_distinct, are_distinct, leaves, names, owned_pairs};
 use edit_list::{Edit, EditId, Fs, Undo};
+use store_types::{BLOCK_LEN, DATA_TYPE, Refusal};
 use udf_run::ReadSet;
-use xn_model::Refusal;
 
 impl State {
     /// Whether an entry of this number was given, where one is named.
@@ -150,7 +150,7 @@ impl State {
 
     /// The chunks that decide what a block of these bytes owns, where that has changed exactly as an edit claims, and each block
     /// is named once. It takes a run only where the edit claims something or writes into a chunk that decides it, or where these chunks are not known.
-    fn claimed(&self, block: u32, ty: u32, new: &[u8; 512], edit: &Edit) -> Option<ReadSet>
+    fn claimed(&self, block: u32, ty: u32, new: &[u8; BLOCK_LEN], edit: &Edit) -> Option<ReadSet>
         requires alive { IsTrue (is_some (life_at self.now.lives block)) }
         requires installed { IsTrue ((own_types self.now).installed ty) }
         requires newest { (l : Life) → life_at self.now.lives block ≡ Some l → (l.ty ≡ ty) × (patched (current l) edit.now.patches ≡ new.now) ×
@@ -183,7 +183,7 @@ impl State {
         &self,
         block: u32,
         ty: u32,
-        old: &[u8; 512],
+        old: &[u8; BLOCK_LEN],
         edit: &Edit,
     ) -> Result<Option<ReadSet>, Refusal>
         requires { IsEditOf (own_types self.now) self.now block ty old.now edit.now }
@@ -203,7 +203,7 @@ impl State {
         &self,
         block: u32,
         ty: u32,
-        old: &[u8; 512],
+        old: &[u8; BLOCK_LEN],
         edit: &Edit,
     ) -> Result<Option<ReadSet>, Refusal>
         requires { IsEditOf (own_types self.now) self.now block ty old.now edit.now }
@@ -223,7 +223,7 @@ impl State {
         &self,
         block: u32,
         ty: u32,
-        old: &[u8; 512],
+        old: &[u8; BLOCK_LEN],
         edit: &Edit,
     ) -> Result<Option<ReadSet>, Refusal>
         requires { IsEditOf (own_types self.now) self.now block ty old.now edit.now }
@@ -246,7 +246,7 @@ impl State {
         fs: Fs,
         block: u32,
         facts: Facts,
-        old: &[u8; 512],
+        old: &[u8; BLOCK_LEN],
         edit: &Edit,
     ) -> Result<Option<ReadSet>, Refusal>
         requires alive { IsTrue (is_some (life_at self.now.lives block)) }
@@ -346,7 +346,7 @@ impl State {
 }
 
 /// What an edit leaves of a block are bytes. A caller learns only that, so the compiler leaves the copy out.
-fn are_bytes(old: &[u8; 512], edit: &Edit)
+fn are_bytes(old: &[u8; BLOCK_LEN], edit: &Edit)
     requires { IsTrue (within_limits edit.now) }
     ensures { IsBlock (patched old.now edit.now.patches) }
 {
@@ -356,7 +356,7 @@ fn are_bytes(old: &[u8; 512], edit: &Edit)
 }
 
 /// The bytes of a block are bytes. It does nothing.
-fn is_block(bytes: &[u8; 512])
+fn is_block(bytes: &[u8; BLOCK_LEN])
     ensures { IsBlock bytes.now }
 {
     let _first = bytes[0];

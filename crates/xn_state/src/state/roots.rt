@@ -15,13 +15,13 @@ use crate::state::State;
 use crate::state::accept::Claims;
 use block_cache::NewBytes;
 use edit_list::{EditId, Fs, Undo};
+use store_types::{BLOCK_LEN, Refusal};
 use templates::{root_slot, with_root_slot};
 use udf_run::Pair;
-use xn_model::Refusal;
 
 impl State {
     /// Block 0's bytes with the root slot set to a fresh block of the file system, and that block's type.
-    fn make_root_plan(&self, fs: Fs, block: u32) -> Result<([u8; 512], u32), Refusal>
+    fn make_root_plan(&self, fs: Fs, block: u32) -> Result<([u8; BLOCK_LEN], u32), Refusal>
         ensures plan { result ≡ make_root_plan self.now fs.number block }
         ensures rules { IsConsistent (own_types self.now) self.now }
         ensures alive { IfOk result (λ plan. IsTrue (is_some (life_at self.now.lives 0))) }
@@ -66,7 +66,7 @@ impl State {
     }
 
     /// Block 0's bytes with the file system's root slot empty, and the block that stands there.
-    fn drop_root_plan(&self, fs: Fs) -> Result<([u8; 512], u32), Refusal>
+    fn drop_root_plan(&self, fs: Fs) -> Result<([u8; BLOCK_LEN], u32), Refusal>
         ensures plan { result ≡ drop_root_plan (own_types self.now) self.now fs.number }
         ensures rules { IsConsistent (own_types self.now) self.now }
         ensures alive { IfOk result (λ plan. IsTrue (is_some (life_at self.now.lives 0))) }

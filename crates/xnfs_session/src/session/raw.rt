@@ -2,14 +2,15 @@
 
 ghost use Rattle.std.specs.Prelude.{◌≤◌};
 
-use crate::session::{MOST_INODES, Session};
+use crate::session::Session;
 use ffs_format::entries::{ENTRIES, ENTRY_LEN, NAME_LEN};
-use ffs_format::inodes::DIRECT_POINTERS;
+use ffs_format::inodes::{DIRECT_POINTERS, MOST_INODES};
 use ffs_format::{Inode, entry_inode, entry_name, home, pointer};
 use ffs_lib::Fs;
 use ffs_lookup::{FfsFault, find_directory, inode_block, is_library, read_block, root_block};
 use flush_store::FlushStore;
 use std::alloc::{AllocError, Global};
+use store_types::BLOCK_LEN;
 use xn_kernel::Store;
 
 /// How many pointers a block of them has.
@@ -54,7 +55,7 @@ fn direct_end(inode: &Inode) -> u32 {
 }
 
 /// The place behind the last pointer of a block that leads to another one.
-fn pointers_end(block: &[u8; 512]) -> u32 {
+fn pointers_end(block: &[u8; BLOCK_LEN]) -> u32 {
     let mut end = 0;
     for place in 0..POINTERS {
         if pointer(block, place) != 0 {
@@ -65,7 +66,7 @@ fn pointers_end(block: &[u8; 512]) -> u32 {
 }
 
 /// Whether an entry says that its name has more bytes than a name has.
-fn is_too_long(block: &[u8; 512], place: usize) -> bool
+fn is_too_long(block: &[u8; BLOCK_LEN], place: usize) -> bool
     requires { place ≤ 15 }
 {
     usize::from(block[ENTRY_LEN * place + 2]) > NAME_LEN
@@ -74,7 +75,7 @@ fn is_too_long(block: &[u8; 512], place: usize) -> bool
 /// Adds the entries of a directory's block.
 fn add_entries(
     alloc: Global,
-    block: &[u8; 512],
+    block: &[u8; BLOCK_LEN],
     entries: &mut Vec<Entry>,
 ) -> Result<(), AllocError> {
     for place in 0..ENTRIES {
@@ -101,7 +102,7 @@ impl<S: FlushStore + Drop> Session<S> {
                 end => end.saturating_add(own),
             },
         };
-        Ok(blocks.saturating_mul(512))
+        Ok(blocks.saturating_mul(BLOCK_LEN as u32))
     }
 
     /// What the inode of a number says; `NoEntry` where there is none.

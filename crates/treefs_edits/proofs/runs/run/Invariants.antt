@@ -1,6 +1,6 @@
 use Rattle.std.proofs.Common.{◌≡◌, length, Result}
 use Rattle.xn_model.specs.Lives.{StoreState}
-use Rattle.xn_model.specs.declared.refusal.Refusal.{Refusal}
+use Rattle.store_types.specs.declared.refusal.Refusal.{Refusal}
 use Rattle.treefs_model.specs.Acts.{Ran}
 use Rattle.treefs_edits.proofs.runs.run.Given as goal
 

@@ -1,5 +1,5 @@
 use Rattle.std.proofs.Common.{◌∙◌, Some, None, sym, refl, suc}
-use Rattle.xn_model.specs.declared.refusal.Refusal.TheVariants.{Device}
+use Rattle.store_types.specs.declared.refusal.Refusal.TheVariants.{Device}
 use Rattle.shared.proofs.Turns.{turn_more, ends_at_failed_write, ends_so}
 use Rattle.shared.proofs.flusher.Flusher+Hub+L+K+G.run.Goals as goal
 

@@ -1,7 +1,7 @@
 use Rattle.std.proofs.Common.{◌∙◌, ◌≡◌, ◌⊎◌, Err, length, sym, ap, subst}
 use Rattle.xn_model.specs.Images.{block_of, joined, IsSound}
 use Rattle.image_model.specs.Walk.{verdict}
-use Rattle.image_model.specs.declared.fault.ImageFault.TheVariants.{NoMemory}
+use Rattle.store_types.specs.declared.image_fault.ImageFault.TheVariants.{NoMemory}
 use Rattle.templates.specs.Language.{types_of_image}
 use Rattle.world.specs.Worlds.{mounted_value}
 use Rattle.world.proofs.Mounting.{mount_world, mount_sound, mount_value, back_unmounted, back_image, back_fault, back_memory}

@@ -1,6 +1,6 @@
 use Rattle.std.proofs.Common.{◌≡◌, ◌∙◌, ℕ, List, Ok, Err, refl, sym, subst, inr}
 use Rattle.std.proofs.lemmas.Result.{err_from_is_err_and}
-use Rattle.xn_model.specs.declared.refusal.Refusal.TheVariants.{NoMemory}
+use Rattle.store_types.specs.declared.refusal.Refusal.TheVariants.{NoMemory}
 use Rattle.xn_model.specs.Results.{Gives}
 use Rattle.xn_model.specs.Lives.{StoreState, life_at}
 use Rattle.xn_model.specs.Calls.{Edit, accepts, life_bytes, patched}

@@ -1,9 +1,9 @@
 -- How a fault is printed: its number, its name and its values.
 use Rattle.std.specs.Prelude.{ℕ, List, ◌++◌, codes}
 use Rattle.std.specs.Fmt.{decimal}
-use Rattle.image_model.specs.declared.fault.ImageFault.{ImageFault}
-use Rattle.image_model.specs.declared.fault.ImageFault.TheVariants.{NoMemory, BadLength, BadMark, BadCount, BadTemplate, UnknownType, OutOfRange, TwoOwners}
-use Rattle.image_model.specs.declared.fault.ImageFault.TheVariants.{SizeWrong, Device}
+use Rattle.store_types.specs.declared.image_fault.ImageFault.{ImageFault}
+use Rattle.store_types.specs.declared.image_fault.ImageFault.TheVariants.{NoMemory, BadLength, BadMark, BadCount, BadTemplate, UnknownType, OutOfRange, TwoOwners}
+use Rattle.store_types.specs.declared.image_fault.ImageFault.TheVariants.{SizeWrong, Device}
 
 abbrev pub image_fault_text : ImageFault → List ℕ
 image_fault_text NoMemory = codes "1 NoMemory"

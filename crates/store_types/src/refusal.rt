@@ -60,7 +60,7 @@ pub enum Refusal {
 
 impl Refusal {
     ghost use Rattle.std.specs.Prelude.{◌≡◌};
-    ghost use Rattle.xn_model.specs.Refusals.{refusal_text};
+    ghost use Rattle.store_types.specs.Refusals.{refusal_text};
 
     /// Its number and its name.
     fn text(self) -> &'static str
@@ -98,7 +98,7 @@ impl Refusal {
 /// Its number and its name.
 impl fmt::Display for Refusal {
     ghost use Rattle.std.specs.Prelude.{Some};
-    ghost use Rattle.xn_model.specs.Refusals.{refusal_text};
+    ghost use Rattle.store_types.specs.Refusals.{refusal_text};
 
     ghost output = { λ refusal. Some (refusal_text refusal) };
 

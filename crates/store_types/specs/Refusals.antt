@@ -1,9 +1,9 @@
 -- How a refusal is printed: its number and its name.
 use Rattle.std.specs.Prelude.{ℕ, List, codes}
-use Rattle.xn_model.specs.declared.refusal.Refusal.{Refusal}
-use Rattle.xn_model.specs.declared.refusal.Refusal.TheVariants.{NoMemory, NoSuchBlock, NotInUse, NotYours, BadPatch, BadAfter, NotFresh, NotOwned, NotEmpty}
-use Rattle.xn_model.specs.declared.refusal.Refusal.TheVariants.{ClaimWrong, SizeWrong, TooManyPending, NoSpace, BadType, InFlight, NotMine, Device, RootTaken}
-use Rattle.xn_model.specs.declared.refusal.Refusal.TheVariants.{NothingSafe, Exhausted, Cycle, NotSynced, NoSlot, BadTemplate}
+use Rattle.store_types.specs.declared.refusal.Refusal.{Refusal}
+use Rattle.store_types.specs.declared.refusal.Refusal.TheVariants.{NoMemory, NoSuchBlock, NotInUse, NotYours, BadPatch, BadAfter, NotFresh, NotOwned, NotEmpty}
+use Rattle.store_types.specs.declared.refusal.Refusal.TheVariants.{ClaimWrong, SizeWrong, TooManyPending, NoSpace, BadType, InFlight, NotMine, Device, RootTaken}
+use Rattle.store_types.specs.declared.refusal.Refusal.TheVariants.{NothingSafe, Exhausted, Cycle, NotSynced, NoSlot, BadTemplate}
 
 abbrev pub refusal_text : Refusal → List ℕ
 refusal_text NoMemory = codes "1 NoMemory"
