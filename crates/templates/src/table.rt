@@ -154,7 +154,7 @@ impl Table {
         }
         match self.get(ty) {
             Some(template) => match constant_size(template.size()) {
-                Some(size) => usize::from(size) == BLOCK_LEN,
+                Some(size) => size == BLOCK_LEN as u16,
                 None => false,
             },
             None => false,
