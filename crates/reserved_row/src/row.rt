@@ -6,8 +6,11 @@ ghost use Rattle.reserved_row.specs.Rows.{row_of};
 use std::alloc::{AllocError, Global};
 use std::marker::Model;
 
+/// How many places are made at once, if there are so many.
+const AT_ONCE: usize = 64;
+
 /// A row of so many places, each of which is blank until it is set. The room for all of them is there from the start, so that no later call
-/// takes memory. Only the places up to the last one that was set are written, so the system gives no page for those behind it.
+/// takes memory. Only the places up to the last one that was set, and some behind it, are written, so the system gives no page for those behind it.
 #[derive(Drop)]
 pub struct ReservedRow<T: Copy> {
     blank: T,
@@ -65,7 +68,7 @@ impl<T: Copy> ReservedRow<T> {
         ensures { self.new ≡ slice_set self.old place value }
     {
         if place < self.places {
-            reach(&mut self.made, place, self.blank);
+            reach(&mut self.made, self.places, place, self.blank);
             self.made[place] = value;
         }
     }
@@ -84,17 +87,20 @@ impl<T: Copy> ReservedRow<Option<T>> {
     }
 }
 
-/// Makes the places up to one for which there is room, with blanks.
+/// Makes the places of a row up to one, and some behind it, with blanks.
 #[inline(always)]
-fn reach<T: Copy>(made: &mut Vec<T>, place: usize, blank: T)
-    requires { place < vec_capacity made.old }
-    ensures row { (places : ℕ) → place < places → row_of blank places made.new.items ≡ row_of blank places made.old.items }
+fn reach<T: Copy>(made: &mut Vec<T>, places: usize, place: usize, blank: T)
+    requires within { place < places }
+    requires few { length made.old.items ≤ places }
+    requires room { places ≤ vec_capacity made.old }
+    ensures row { row_of blank places made.new.items ≡ row_of blank places made.old.items }
     ensures there { place < length made.new.items }
-    ensures few { (places : ℕ) → place < places → length made.old.items ≤ places → length made.new.items ≤ places }
+    ensures few { length made.new.items ≤ places }
     ensures capacity { vec_capacity made.old ≤ vec_capacity made.new }
 {
     if place >= made.len() {
-        extend(made, place + 1, blank);
+        let count = place.saturating_add(AT_ONCE).min(places);
+        extend(made, count, blank);
     }
 }
 
