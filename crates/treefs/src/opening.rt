@@ -1,6 +1,6 @@
 // How a volume that was made is found, and how it is marked as closed.
 
-ghost use Rattle.std.specs.Prelude.{◌≡◌};
+ghost use Rattle.std.specs.Prelude.{◌≡◌, []};
 ghost use Rattle.treefs_lookup.specs.Readable.{readable};
 ghost use Rattle.xn_model.specs.Calls.{kind_of};
 ghost use Rattle.treefs.specs.Opening.{has_type, is_root, mark_plan, root_found};
@@ -9,7 +9,7 @@ use crate::block_types::BlockTypes;
 use crate::making::FIRST_POINTER;
 use edit_list::Fs;
 use std::alloc::{AllocError, Global};
-use treefs_edits::{Act, Planned, Start, kinds};
+use treefs_edits::{Act, ActsAlone, kinds};
 use treefs_format::inodes::content;
 use treefs_format::roots::{CLEAN, is_marked};
 use treefs_lookup::{pointer_at, read_block};
@@ -25,14 +25,10 @@ pub struct MarkPlan {
     pub clean: bool,
 }
 
-impl Planned for MarkPlan {
-    ghost plan = { λ p. mark_plan p.top p.clean };
+impl ActsAlone for MarkPlan {
+    ghost acts_of = { λ p. (mark_plan p.top p.clean).acts [] };
 
-    fn starts(&self, alloc: Global) -> Result<Vec<Start>, AllocError> {
-        Ok(Vec::new(alloc))
-    }
-
-    fn acts(&self, alloc: Global, _begun: &[u32]) -> Result<Vec<Act>, AllocError> {
+    fn acts_alone(&self, alloc: Global) -> Result<Vec<Act>, AllocError> {
         let mark = [u8::from(self.clean)];
         let act = kinds::write_content(alloc, self.top, CLEAN, &mark, None)?;
         Ok(Vec::from_array(alloc, [act])?)

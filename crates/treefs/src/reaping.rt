@@ -1,15 +1,15 @@
 // Inodes without links are trimmed to nothing, and then they are freed.
 
-ghost use Rattle.std.specs.Prelude.{◌≡◌, ◌≢◌, ◌+◌, ◌<◌, ◌≤◌, ◌++◌, ◌==◌, Ok, IfOk, length, map};
+ghost use Rattle.std.specs.Prelude.{◌≡◌, ◌≢◌, ◌+◌, ◌<◌, ◌≤◌, ◌∷◌, ◌++◌, ◌==◌, [], Ok, IfOk, length, map};
 ghost use Rattle.xn_model.specs.BareDisks.{zeros};
 ghost use Rattle.xn_model.specs.Calls.{read_of};
 ghost use Rattle.xn_model.specs.Lists.{has_number, put};
 ghost use Rattle.treefs_byte_plans.specs.Kept.{HasFewLeaves};
 ghost use Rattle.treefs_format.specs.Paths.{leaf_count};
 ghost use Rattle.treefs_lookup.specs.Readable.{readable};
-ghost use Rattle.treefs.specs.Reaping.{Empties, EmptiesOne, IsFreeing, IsReapPlanned, Reaps, ReapsOne, bytes_or_zeros, cleared, first_beside};
+ghost use Rattle.treefs.specs.Reaping.{Empties, EmptiesOne, IsFreeing, IsReapPlanned, Reaps, ReapsOne, bytes_or_zeros, cleared, first_beside, reap_act};
 ghost use Rattle.treefs.specs.Reaping.{first_offset, freed_at, freed_memory, freed_patch, is_freed, kept_of_orphan, last_offset, least_hint};
-ghost use Rattle.treefs.specs.Reaping.{left_orphans, left_touched, orphan_block, reap_plan};
+ghost use Rattle.treefs.specs.Reaping.{left_orphans, left_touched, orphan_block};
 
 use crate::reap_plan::{Freed, ReapPlan};
 use crate::trimming::trim_first;
@@ -19,21 +19,17 @@ use std::alloc::{AllocError, Global};
 use store_types::BLOCK_LEN;
 use treefs_byte_plans::Kept;
 use treefs_edits::fronts::{behind, front};
-use treefs_edits::{Act, Memory, Planned, Start, Touched, Tree, carry_out, has_room};
+use treefs_edits::{Act, ActsAlone, Memory, Touched, Tree, carry_out, has_room};
 use treefs_format::paths::{LEAVES, first_leaf, height};
 use treefs_format::roots::inode_leaf;
 use treefs_lookup::{find_holder, find_inode, leaves_beside, pointer_offset};
 use treefs_model::Fault;
 use xn_state::Store;
 
-impl Planned for ReapPlan {
-    ghost plan = { reap_plan };
+impl ActsAlone for ReapPlan {
+    ghost acts_of = { λ p. reap_act p ∷ [] };
 
-    fn starts(&self, alloc: Global) -> Result<Vec<Start>, AllocError> {
-        Ok(Vec::new(alloc))
-    }
-
-    fn acts(&self, alloc: Global, _begun: &[u32]) -> Result<Vec<Act>, AllocError> {
+    fn acts_alone(&self, alloc: Global) -> Result<Vec<Act>, AllocError> {
         let freed = self.freed.as_slice();
         let patch = freed_patch(alloc, freed, &self.bytes)?;
         let act = Act {

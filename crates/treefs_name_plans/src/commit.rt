@@ -2,7 +2,7 @@
 
 ghost use Rattle.std.specs.Prelude.{◌≡◌, ◌≤◌, length, OnOk};
 ghost use Rattle.treefs_format.specs.Paths.{leaf_count};
-ghost use Rattle.treefs_name_plans.specs.CommitPlans.{IsCommitPlanned, IsNumberFound, IsReplaced, IsTarget, commit_in_room};
+ghost use Rattle.treefs_name_plans.specs.CommitPlans.{IsCommitPlanned, IsReplaced, IsTarget, commit_in_room};
 
 use crate::commit_plan::CommitPlan;
 use crate::endings::find_ended_file;
@@ -14,13 +14,6 @@ use treefs_edits::{Memory, Tree, has_room, have_room};
 use treefs_lookup::{find_leaf, find_number};
 use treefs_model::Fault;
 use xn_state::Store;
-
-/// The number that a new inode gets. The faults are `Full` and `NoInode`.
-pub fn find_new_number<S: Store>(store: &S, tree: Tree, memory: &Memory) -> Result<u32, Fault>
-    ensures { IsNumberFound (S.state_of store.now) tree memory.now result }
-{
-    find_number(store, tree.fs, tree.top, memory.hint)
-}
 
 /// What it takes that a new inode is named, where there is room for so many edits and for it; else the fault is `Full`.
 pub fn commit_in_room<S: Store>(
@@ -108,7 +101,7 @@ pub fn plan_commit<S: Store>(
 {
     let block = find_directory_for(store, tree, directory, name)?.block;
     let replaced = find_target(store, tree, memory, directory, name, replace)?;
-    let number = find_new_number(store, tree, memory)?;
+    let number = find_number(store, tree.fs, tree.top, memory.hint)?;
     let naming = find_naming(store, tree, directory, block, name, replaced)?;
     commit_in_room(store, tree, memory, 30, number, block, naming)
 }

@@ -5,12 +5,13 @@ ghost use Rattle.treefs_format.specs.Paths.{leaf_count};
 ghost use Rattle.treefs_name_plans.specs.NewPlans.{IsNewPlanned, free_in_room, new_in_room};
 
 use crate::addition::Addition;
-use crate::commit::{commit_in_room, find_new_number};
+use crate::commit::commit_in_room;
 use crate::naming::Naming;
 use crate::new_names::{find_addition, find_free_name};
 use crate::new_plan::NewPlan;
 use store_types::BLOCK_LEN;
 use treefs_edits::{Memory, Tree, has_room};
+use treefs_lookup::find_number;
 use treefs_model::Fault;
 use xn_state::Store;
 
@@ -68,7 +69,7 @@ pub fn plan_new<S: Store>(
     ensures short { OnOk result (length name.now ≤ 255) }
 {
     let block = find_free_in_room(store, tree, memory, directory, name)?;
-    let number = find_new_number(store, tree, memory)?;
+    let number = find_number(store, tree.fs, tree.top, memory.hint)?;
     let addition = find_addition(store, tree, directory, block, name)?;
     new_in_room(store, tree, memory, number, block, inode, addition)
 }

@@ -1,10 +1,10 @@
 // A file's name ends.
 
-ghost use Rattle.treefs_name_plans.specs.Ends.{end_plan};
+ghost use Rattle.treefs_name_plans.specs.Ends.{end_acts};
 
 use crate::name_end::NameEnd;
 use std::alloc::{AllocError, Global};
-use treefs_edits::{Act, Planned, Start};
+use treefs_edits::{Act, ActsAlone};
 
 /// A file's name ends, behind another name of its inode where it has to be.
 #[derive(Clone, Copy, Debug)]
@@ -15,14 +15,10 @@ pub struct EndPlan {
     pub behind: Option<u32>,
 }
 
-impl Planned for EndPlan {
-    ghost plan = { end_plan };
+impl ActsAlone for EndPlan {
+    ghost acts_of = { λ p. end_acts p.end p.behind };
 
-    fn starts(&self, alloc: Global) -> Result<Vec<Start>, AllocError> {
-        Ok(Vec::new(alloc))
-    }
-
-    fn acts(&self, alloc: Global, _begun: &[u32]) -> Result<Vec<Act>, AllocError> {
+    fn acts_alone(&self, alloc: Global) -> Result<Vec<Act>, AllocError> {
         let mut acts = Vec::new(alloc);
         self.end.push_acts(alloc, &mut acts, self.behind)?;
         Ok(acts)

@@ -2,12 +2,12 @@
 
 ghost use Rattle.std.specs.Prelude.{◌≡◌, ◌∷◌, [], ◌++◌, IfOk, map};
 ghost use Rattle.treefs_model.specs.Acts.{wait_act};
-ghost use Rattle.treefs_name_plans.specs.Removals.{first_of, removal_plan};
+ghost use Rattle.treefs_name_plans.specs.Removals.{first_of, removal_acts};
 
 use crate::removal::RemovalPlan;
 use std::alloc::{AllocError, Global};
 use treefs_edits::fronts::behind;
-use treefs_edits::{Act, Planned, Start, kinds};
+use treefs_edits::{Act, ActsAlone, kinds};
 
 /// The first of some blocks.
 fn first_of(blocks: &[u32]) -> Option<u32>
@@ -35,14 +35,10 @@ fn push_waits(
     Ok(())
 }
 
-impl Planned for RemovalPlan {
-    ghost plan = { removal_plan };
+impl ActsAlone for RemovalPlan {
+    ghost acts_of = { removal_acts };
 
-    fn starts(&self, alloc: Global) -> Result<Vec<Start>, AllocError> {
-        Ok(Vec::new(alloc))
-    }
-
-    fn acts(&self, alloc: Global, _begun: &[u32]) -> Result<Vec<Act>, AllocError> {
+    fn acts_alone(&self, alloc: Global) -> Result<Vec<Act>, AllocError> {
         let pending = self.pending.as_slice();
         let mut acts = Vec::new(alloc);
         let others = behind(pending, 1);
