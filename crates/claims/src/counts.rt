@@ -68,6 +68,7 @@ impl OwnedCounts {
     }
 
     /// A block drops so many that it owns, and adds so many.
+    #[inline(always)]
     pub fn change(&mut self, block: u32, drops: u32, adds: u32)
         requires there { block < length self.old }
         requires owned { drops ≤ slice_index self.old block }

@@ -148,6 +148,7 @@ impl Candidates {
 }
 
 /// Makes candidates of the blocks that wait for another one.
+#[inline(always)]
 fn wake_all(blocks: &mut BlockSet, waits: &mut WaitLists, other: u32)
     requires { length waits.old ≡ length blocks.old }
     ensures wakes { Wakes (record { blocks = blocks.old; waits = waits.old }) (record { blocks = blocks.new; waits = waits.new }) other }

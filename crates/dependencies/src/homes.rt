@@ -69,6 +69,7 @@ impl Homes {
     }
 
     /// Notes the block of a new entry.
+    #[inline(always)]
     pub fn put(&mut self, number: u64, block: u32)
         ensures home { self.new ≡ homes_with self.old number block }
         ensures room { slot_of (length self.old) number < length self.old }
