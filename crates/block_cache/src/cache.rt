@@ -27,6 +27,7 @@ use crate::named_places::NamedPlaces;
 use crate::new_bytes::NewBytes;
 use crate::rollback;
 use edit_list::{EditId, Fs, Undo};
+use reserved_row::ReservedRow;
 use slab::Slab;
 use std::alloc::{AllocError, Global};
 use std::marker::Model;
@@ -68,7 +69,7 @@ impl Cache {
     /// are free. `Err` comes only for want of memory.
     pub fn found(
         alloc: Global,
-        found: &[Option<FoundLife>],
+        found: &ReservedRow<Option<FoundLife>>,
         blocks: &[[u8; BLOCK_LEN]],
     ) -> Result<Cache, AllocError>
         requires within { length found.now ≤ length blocks.now }
@@ -300,13 +301,13 @@ impl Cache {
 }
 
 /// Which places of an image's catalogue name a template: none where block 0 is not found.
-fn named_in(found: &[Option<FoundLife>], blocks: &[[u8; BLOCK_LEN]]) -> NamedPlaces
+fn named_in(found: &ReservedRow<Option<FoundLife>>, blocks: &[[u8; BLOCK_LEN]]) -> NamedPlaces
     requires { length found.now ≤ length blocks.now }
     ensures { result.places ≡ places_named (durable_bytes (rest_at found.now blocks.now 0)) }
 {
-    match found.first() {
-        Some(Some(_)) => NamedPlaces::of(&blocks[0]),
-        _ => NamedPlaces::none(),
+    match found.item(0) {
+        Some(_) => NamedPlaces::of(&blocks[0]),
+        None => NamedPlaces::none(),
     }
 }
 

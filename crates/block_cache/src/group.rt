@@ -16,6 +16,7 @@ use crate::new_bytes::NewBytes;
 use crate::place::Place;
 use crate::totals::Exchange;
 use edit_list::Fs;
+use reserved_row::ReservedRow;
 use std::alloc::{AllocError, Global};
 use std::marker::Model;
 use store_types::BLOCK_LEN;
@@ -45,7 +46,7 @@ impl Group {
     /// The lives of the 64 blocks from `first` on that are found in an image.
     pub fn found(
         alloc: Global,
-        found: &[Option<FoundLife>],
+        found: &ReservedRow<Option<FoundLife>>,
         blocks: &[[u8; BLOCK_LEN]],
         first: usize,
     ) -> Result<Group, AllocError>
@@ -172,7 +173,7 @@ fn free_places(alloc: Global) -> Result<Vec<Place>, AllocError>
 /// The places of the 64 blocks from `first` on that are found in an image.
 fn found_places(
     alloc: Global,
-    found: &[Option<FoundLife>],
+    found: &ReservedRow<Option<FoundLife>>,
     blocks: &[[u8; BLOCK_LEN]],
     first: usize,
 ) -> Result<Vec<Place>, AllocError>
@@ -190,26 +191,26 @@ fn found_places(
 /// The place of a block that is found in an image, or is free.
 fn found_place(
     alloc: Global,
-    found: &[Option<FoundLife>],
+    found: &ReservedRow<Option<FoundLife>>,
     blocks: &[[u8; BLOCK_LEN]],
     block: usize,
 ) -> Place
     requires { length found.now ≤ length blocks.now }
     ensures { result ≡ resting_at found.now blocks.now block }
 {
-    match found.get(block) {
-        Some(Some(life)) => Place::found(alloc, *life, &blocks[block]),
-        _ => Place::free(alloc),
+    match found.item(block) {
+        Some(life) => Place::found(alloc, life, &blocks[block]),
+        None => Place::free(alloc),
     }
 }
 
 /// Whether none of the 64 blocks from `first` on is found in an image.
-fn is_none_found(found: &[Option<FoundLife>], first: usize) -> bool
+fn is_none_found(found: &ReservedRow<Option<FoundLife>>, first: usize) -> bool
     requires { first + 64 < 2 ^ 64 }
     ensures { IsTrue result → (k : ℕ) → k < 64 → slice_index_or found.now (first + k) None ≡ None }
 {
     for at in 0..GROUP_BLOCKS {
-        if let Some(Some(_)) = found.get(first + at) {
+        if found.item(first + at).is_some() {
             return false;
         }
     }

@@ -15,6 +15,7 @@ use crate::life::{Change, FoundLife, Life};
 use crate::new_bytes::NewBytes;
 use crate::totals::Totals;
 use edit_list::Fs;
+use reserved_row::ReservedRow;
 use std::alloc::{AllocError, Global};
 use std::marker::Model;
 use store_types::BLOCK_LEN;
@@ -56,7 +57,7 @@ impl Lives {
     /// The lives of the blocks that are found in an image, by block number.
     pub fn found(
         alloc: Global,
-        found: &[Option<FoundLife>],
+        found: &ReservedRow<Option<FoundLife>>,
         blocks: &[[u8; BLOCK_LEN]],
     ) -> Result<Lives, AllocError>
         requires within { length found.now ≤ length blocks.now }
@@ -65,7 +66,7 @@ impl Lives {
     {
         Ok(Lives {
             alloc,
-            blocks: found.len() as u32,
+            blocks: found.places() as u32,
             groups: found_groups(alloc, found, blocks)?,
             totals: Totals {
                 pending: 0,
@@ -180,7 +181,7 @@ impl Lives {
 /// The groups of the blocks that are found in an image.
 fn found_groups(
     alloc: Global,
-    found: &[Option<FoundLife>],
+    found: &ReservedRow<Option<FoundLife>>,
     blocks: &[[u8; BLOCK_LEN]],
 ) -> Result<Vec<Group>, AllocError>
     requires within { length found.now ≤ length blocks.now }
@@ -189,7 +190,7 @@ fn found_groups(
     ensures places { IfOk result (λ groups. places_of (length found.now) groups.items
         ≡ map (resting_at found.now blocks.now) (range_with_len 0 (length found.now))) }
 {
-    let count = found.len().div_ceil(GROUP_BLOCKS);
+    let count = found.places().div_ceil(GROUP_BLOCKS);
     let mut groups = Vec::with_capacity(alloc, count)?;
     for group in 0..count {
         groups.push_reserved(Group::found(alloc, found, blocks, GROUP_BLOCKS * group)?);

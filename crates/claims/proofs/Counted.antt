@@ -1,9 +1,9 @@
 -- The counts of owned blocks, where lives change.
 use Rattle.std.proofs.Common.{◌≡◌, ℕ, ◌+◌, ◌-◌, ◌<◌, ◌≤◌, false, cond, List, length, map, take, replicate, Option, Some, None, refl, sym, subst, ◌∙◌, ap, arith, inl, inr}
-use Rattle.std.specs.Prelude.{Contains, option_map, slice_index, slice_index_or, slice_set}
+use Rattle.std.specs.Prelude.{Contains, option_map, slice_get, slice_index, slice_index_or, slice_set, unwrap_or}
 use Rattle.std.proofs.lemmas.Bool.{cases_eq, cases_lt, eq-eqb, ne_eqb}
 use Rattle.std.proofs.lemmas.Option.{unwrap_or-slice_get}
-use Rattle.std.proofs.lemmas.List.{get_or_past, get_or_read, get_or-replicate, get_or-set_other, get_or-set_same, length-replicate, length-set, length-take-le, take_all}
+use Rattle.std.proofs.lemmas.List.{get_or_past, get_or-replicate, get_or-set_other, get_or-set_same, length-replicate, length-set, length-take-le, take_all}
 use Rattle.std.proofs.lemmas.List.FromFn.{get_or-map-range_with_len, length-map-range_with_len}
 use Rattle.std.proofs.lemmas.List.Sums.{count_by-le-length, sum_by_more}
 use Rattle.std.specs.List.{range_with_len}
@@ -100,6 +100,10 @@ may_drop_all counts lives b adds drops h there may =
     let was = h.each b there in
     omega (arith, within, one, was)
 
+-- none is counted past the end
+pub none_past : (counts : List ℕ) (b : ℕ) (o : Option ℕ) → o ≡ slice_get counts b → o ≡ None → 0 ≡ slice_index counts b
+none_past counts b o is none = ap (λ (count : Option ℕ). unwrap_or count 0) (sym none ∙ is) ∙ unwrap_or-slice_get counts b 0
+
 -- Counted from nothing
 
 -- each place of a list so far
@@ -159,14 +163,12 @@ rest_owner : (blocks : List (List ℕ)) (b : ℕ) (o : Option FoundLife) → own
 rest_owner blocks b None = refl
 rest_owner blocks b (Some found) = refl
 
-pub one_found : (counts : List ℕ) (found : List (Option FoundLife)) (blocks : List (List ℕ)) (n : ℕ) → n < length found →
-    (o : Option FoundLife) → o ≡ slice_index_or found n o → AreCountedTo counts (lives_of_found found blocks) n →
-    AreCountedTo (one_more counts (found_owner o)) (lives_of_found found blocks) (n + 1)
-one_found counts found blocks n there o is h =
+pub one_found : (counts : List ℕ) (found : List (Option FoundLife)) (blocks : List (List ℕ)) (n : ℕ) → n < length found → AreCountedTo counts (lives_of_found found blocks) n →
+    AreCountedTo (one_more counts (found_owner (slice_index_or found n None))) (lives_of_found found blocks) (n + 1)
+one_found counts found blocks n there h =
     let lives = lives_of_found found blocks in
     let life = unwrap_or-slice_get lives n None ∙ get_or-map-range_with_len (rest_at found blocks) 0 (length found) n n None there (omega arith) in
-    let item = sym (get_or_read found n o there is None) in
-    let owner = ap (λ (l : Option Life). owner_in (option_map facts_of l)) life ∙ (rest_owner blocks n (slice_index_or found n None) ∙ ap found_owner item) in
+    let owner = ap (λ (l : Option Life). owner_in (option_map facts_of l)) life ∙ rest_owner blocks n (slice_index_or found n None) in
     subst (λ (a : Option ℕ). AreCountedTo (one_more counts a) lives (n + 1)) owner (one_counted counts lives n (omega (arith, there, length-found found blocks)) h)
 
 -- all of them

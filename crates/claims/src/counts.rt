@@ -1,19 +1,20 @@
 // How many blocks each block owns.
 
-ghost use Rattle.std.specs.Prelude.{◌≡◌, ℕ, ◌+◌, ◌-◌, ◌<◌, ◌≤◌, ◌^◌, List, IfOk, length, map, slice_index, slice_set};
+ghost use Rattle.std.specs.Prelude.{◌≡◌, ℕ, ◌+◌, ◌-◌, ◌<◌, ◌≤◌, ◌^◌, List, IfOk, length, map, slice_index, slice_index_or, slice_set, None};
 ghost use Rattle.std.specs.List.{range_with_len};
 ghost use Rattle.xn_model.specs.Lives.{owner_of};
 ghost use Rattle.block_cache.specs.Views.{rest_at};
 ghost use Rattle.claims.specs.Owned.{AreOwnedCounts, one_more, owner_in, found_owner};
 
 use block_cache::{Facts, FoundLife, Status};
+use reserved_row::ReservedRow;
 use std::alloc::{AllocError, Global};
 use std::marker::Model;
 
 /// How many blocks each block owns, by block number.
 #[derive(Drop)]
 pub struct OwnedCounts {
-    counts: Vec<u32>,
+    counts: ReservedRow<u32>,
 }
 
 impl Model for OwnedCounts {
@@ -21,21 +22,25 @@ impl Model for OwnedCounts {
 
     ghost Value = { List ℕ };
 
-    ghost view = { λ a. a.counts.items };
+    ghost view = { λ a. a.counts };
 }
 
 impl OwnedCounts {
     /// How many blocks each block owns of those that are found in an image. It reads what is found, which lies close together, and no life.
-    pub fn found(alloc: Global, found: &[Option<FoundLife>]) -> Result<OwnedCounts, AllocError>
+    pub fn found(
+        alloc: Global,
+        found: &ReservedRow<Option<FoundLife>>,
+    ) -> Result<OwnedCounts, AllocError>
         requires few { length found.now < 2 ^ 32 }
         ensures { IfOk result (λ counts. (blocks : List (List ℕ))
             → AreOwnedCounts counts (map (rest_at found.now blocks) (range_with_len 0 (length found.now)))) }
     {
+        let blocks = found.places();
         let mut owned = OwnedCounts {
-            counts: vec![in alloc; 0; found.len()]?,
+            counts: ReservedRow::new(alloc, blocks, 0)?,
         };
-        for life in found {
-            owned.count_one(found_owner(life));
+        for block in 0..blocks {
+            owned.count_one(owner_at(found, block));
         }
         Ok(owned)
     }
@@ -46,9 +51,8 @@ impl OwnedCounts {
         ensures { self.new ≡ one_more self.old owner }
     {
         if let Some(owner) = owner {
-            let place = owner as usize;
-            if place < self.counts.len() {
-                self.counts[place] += 1;
+            if let Some(count) = self.counts.get(owner as usize) {
+                self.counts.set(owner as usize, count + 1);
             }
         }
     }
@@ -58,7 +62,7 @@ impl OwnedCounts {
         ensures { result ≡ slice_index self.now block }
     {
         match self.counts.get(block as usize) {
-            Some(count) => *count,
+            Some(count) => count,
             None => 0,
         }
     }
@@ -70,8 +74,8 @@ impl OwnedCounts {
         requires few { slice_index self.old block + adds < 2 ^ 32 }
         ensures { self.new ≡ slice_set self.old block (slice_index self.old block - drops + adds) }
     {
-        let place = block as usize;
-        self.counts[place] = self.counts[place] - drops + adds;
+        let count = self.count(block) - drops + adds;
+        self.counts.set(block as usize, count);
     }
 }
 
@@ -82,14 +86,11 @@ pub(crate) fn owner_in(facts: Option<Facts>) -> Option<u32>
     owner_of(facts?.status)
 }
 
-/// The block that owns a block of which this is found.
-fn found_owner(found: &Option<FoundLife>) -> Option<u32>
-    ensures { result ≡ found_owner found.now }
+/// The block that owns a block, by what is found of it.
+fn owner_at(found: &ReservedRow<Option<FoundLife>>, block: usize) -> Option<u32>
+    ensures { result ≡ found_owner (slice_index_or found.now block None) }
 {
-    match found {
-        None => None,
-        Some(life) => owner_of(life.status),
-    }
+    owner_of(found.item(block)?.status)
 }
 
 /// The block that owns a block of this status.

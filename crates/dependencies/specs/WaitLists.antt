@@ -1,9 +1,9 @@
 -- Which block each block waits for, and how the lists of waiters are linked.
-use Rattle.std.specs.Prelude.{◌≡◌, ℕ, Contains, List, [], ◌∷◌, length, Option, Some, None, unwrap_or, slice_get, slice_set}
+use Rattle.std.specs.Prelude.{◌≡◌, ℕ, Contains, List, [], ◌∷◌, length, Option, Some, None, slice_index_or, slice_set}
 
 -- the number at a place of a row; past the end there is none
 abbrev pub at : List (Option ℕ) → ℕ → Option ℕ
-at row k = unwrap_or (slice_get row k) None
+at row k = slice_index_or row k None
 
 -- block b waited for another one, and waits no longer
 pub record Releases (old new : List (Option ℕ)) (other b : ℕ) : Type 0 where

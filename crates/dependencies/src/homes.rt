@@ -3,6 +3,7 @@
 ghost use Rattle.std.specs.Prelude.{◌≡◌, ℕ, ◌<◌, length, replicate, IfOk};
 ghost use Rattle.dependencies.specs.Homes.{home_of, homes_with, slot_of};
 
+use reserved_row::ReservedRow;
 use std::alloc::{AllocError, Global};
 use std::marker::Model;
 
@@ -16,7 +17,7 @@ const MOST_SLOTS: usize = 1 << 18;
 /// is its lowest bits, with no division.
 #[derive(Drop)]
 pub struct Homes {
-    slots: Vec<(u64, u32)>,
+    slots: ReservedRow<(u64, u32)>,
 }
 
 impl Model for Homes {
@@ -24,9 +25,9 @@ impl Model for Homes {
 
     ghost Value = { List (ℕ × ℕ) };
 
-    ghost view = { λ a. a.slots.items };
+    ghost view = { λ a. a.slots };
 
-    ghost invariant = { λ a. 0 < length a.slots.items };
+    ghost invariant = { λ a. 0 < length a.slots };
 }
 
 impl Homes {
@@ -37,7 +38,7 @@ impl Homes {
         let wanted = (blocks as usize * 2).clamp(LEAST_SLOTS, MOST_SLOTS);
         let count = wanted.next_power_of_two();
         Ok(Homes {
-            slots: vec![in alloc; (0, 0); count]?,
+            slots: ReservedRow::new(alloc, count, (0, 0))?,
         })
     }
 
@@ -45,7 +46,7 @@ impl Homes {
     pub fn slots(&self) -> usize
         ensures { result ≡ length self.now }
     {
-        self.slots.len()
+        self.slots.places()
     }
 
     /// The slot of a number.
@@ -54,15 +55,17 @@ impl Homes {
         ensures slot { result ≡ slot_of (length self.now) number }
         ensures within { result < length self.now }
     {
-        number as usize & (self.slots.len() - 1)
+        number as usize & (self.slots.places() - 1)
     }
 
     /// The block of an entry, unless a later one has taken its slot.
     pub fn home(&self, number: u64) -> Option<u32>
         ensures { result ≡ home_of self.now number }
     {
-        let slot = self.slots[self.slot(number)];
-        if slot.0 == number { Some(slot.1) } else { None }
+        match self.slots.get(self.slot(number)) {
+            Some((newest, block)) if newest == number => Some(block),
+            _ => None,
+        }
     }
 
     /// Notes the block of a new entry.
@@ -71,6 +74,6 @@ impl Homes {
         ensures room { slot_of (length self.old) number < length self.old }
     {
         let slot = self.slot(number);
-        self.slots[slot] = (number, block);
+        self.slots.set(slot, (number, block));
     }
 }

@@ -3,19 +3,17 @@
 ghost use Rattle.std.specs.Prelude.{◌≡◌, ◌<◌, ℕ, length, replicate, slice_set, IfOk, IfSome, IfNone, None, Some, is_some};
 ghost use Rattle.dependencies.specs.WaitLists.{at, Releases};
 
-use row::Row;
+use reserved_row::ReservedRow;
 use std::alloc::{AllocError, Global};
 use std::marker::Model;
-
-mod row;
 
 /// Which block each block waits for, seen as a row: at most one. The blocks that wait for one are a list, from the first on by
 /// the next one of each.
 #[derive(Drop)]
 pub struct WaitLists {
-    waits_for: Row,
-    first: Row,
-    next: Row,
+    waits_for: ReservedRow<Option<u32>>,
+    first: ReservedRow<Option<u32>>,
+    next: ReservedRow<Option<u32>>,
 }
 
 impl Model for WaitLists {
@@ -36,9 +34,9 @@ impl WaitLists {
     {
         let count = blocks as usize;
         Ok(WaitLists {
-            waits_for: Row::new(alloc, count)?,
-            first: Row::new(alloc, count)?,
-            next: Row::new(alloc, count)?,
+            waits_for: ReservedRow::new(alloc, count, None)?,
+            first: ReservedRow::new(alloc, count, None)?,
+            next: ReservedRow::new(alloc, count, None)?,
         })
     }
 
@@ -46,7 +44,7 @@ impl WaitLists {
     pub fn is_waiting(&self, block: u32) -> bool
         ensures { result ≡ is_some (at self.now block) }
     {
-        self.waits_for.get(block).is_some()
+        self.waits_for.item(block as usize).is_some()
     }
 
     /// Puts a block that waits for none at the front of the list of another. It takes no memory.
@@ -56,10 +54,10 @@ impl WaitLists {
         requires free { at self.old block ≡ None }
         ensures { self.new ≡ slice_set self.old block (Some other) }
     {
-        let first = self.first.get(other);
-        self.next.set(block, first);
-        self.first.set(other, Some(block));
-        self.waits_for.set(block, Some(other));
+        let first = self.first.item(other as usize);
+        self.next.set(block as usize, first);
+        self.first.set(other as usize, Some(block));
+        self.waits_for.set(block as usize, Some(other));
     }
 
     /// Takes a block from the front of the list of another: it waits no longer. `None` comes where none waits for that one, and
@@ -69,10 +67,10 @@ impl WaitLists {
         ensures same { IfNone result (self.new ≡ self.old) }
         ensures none { IfNone result ((b : ℕ) → at self.old b ≡ Some other → ⊥) }
     {
-        let block = self.first.get(other)?;
-        let next = self.next.get(block);
-        self.first.set(other, next);
-        self.waits_for.set(block, None);
+        let block = self.first.item(other as usize)?;
+        let next = self.next.item(block as usize);
+        self.first.set(other as usize, next);
+        self.waits_for.set(block as usize, None);
         Some(block)
     }
 }

@@ -16,6 +16,9 @@ use ffs_format::{ENTRIES, entry_inode};
 use store_types::BLOCK_LEN;
 use xn_state::Store;
 
+/// How many inodes a volume has at most, as an index.
+const INODES: usize = MOST_INODES as usize;
+
 /// How many entries name each inode, by its number less 1, cut off at 2^32 - 1; and the least number past 128 that is named.
 #[derive(Drop)]
 pub struct NameCounts {
@@ -51,7 +54,7 @@ impl NameCounts {
             return;
         }
         let at = usize::from(inode - 1);
-        if at < MOST_INODES as usize {
+        if at < INODES {
             self.each[at] = self.each[at].saturating_add(1);
         } else {
             self.past = Some(least_of(self.past, inode));
@@ -107,7 +110,7 @@ pub fn count_names<S: Store>(store: &S, fs: Fs) -> Result<NameCounts, FfsFault>
     ensures counts { IsLibrary (S.types_of store.now) → IfOk result (AreCounts (named_numbers (latest (S.state_of store.now).lives) fs.number)) }
 {
     let mut counts = NameCounts::none();
-    for at in 0..MOST_INODES as usize {
+    for at in 0..INODES {
         let number = at as u16 + 1;
         let Ok(directory) = find_directory(store, fs, number) else {
             continue;
@@ -132,7 +135,7 @@ pub fn find_over_named<S: Store>(store: &S, fs: Fs) -> Result<Option<u16>, FfsFa
     ensures { IsLibrary (S.types_of store.now) → result ≡ Ok (over_named (latest (S.state_of store.now).lives) fs.number) }
 {
     let counts = count_names(store, fs)?;
-    for at in 0..MOST_INODES as usize {
+    for at in 0..INODES {
         let number = at as u16 + 1;
         if counts.each[at] > u32::from(links_of(store, fs, number)) {
             return Ok(Some(number));

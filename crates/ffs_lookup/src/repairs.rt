@@ -14,6 +14,9 @@ use edit_list::Fs;
 use ffs_format::inodes::MOST_INODES;
 use xn_state::Store;
 
+/// How many inodes a volume has at most, as an index.
+const INODES: usize = MOST_INODES as usize;
+
 /// What an inode needs.
 #[derive(Clone, Copy, Debug)]
 pub enum Repair {
@@ -40,7 +43,7 @@ impl Repairs {
             return Repair::Keep;
         }
         let at = usize::from(inode - 1);
-        if at < MOST_INODES as usize {
+        if at < INODES {
             self.each[at]
         } else {
             Repair::Keep
@@ -93,7 +96,7 @@ pub fn look_up_repairs<S: Store>(store: &S, fs: Fs) -> Result<Repairs, FfsFault>
     }
     let counts = count_names(store, fs)?;
     let mut each = [Repair::Keep; 128];
-    for at in 1..MOST_INODES as usize {
+    for at in 1..INODES {
         let number = at as u16 + 1;
         each[at] = find_repair(store, fs, number, counts.of(number))?;
     }

@@ -19,7 +19,6 @@ use Rattle.treefs_lookup.specs.Inodes.{file_found}
 use Rattle.treefs_lookup.specs.Readable.{readable}
 use Rattle.treefs_lookup.specs.declared.inodes.Found.{Found}
 use Rattle.treefs_edits.specs.Memories.{Memory}
-use Rattle.treefs_edits.specs.Plans.{Plan}
 use Rattle.treefs_edits.specs.Rooms.{has_room}
 use Rattle.treefs_edits.specs.declared.tree.Tree.{Tree}
 use Rattle.treefs_byte_plans.specs.Fields.{bytes_patch, risen, size_acts, size_changes, times_now}
@@ -40,12 +39,6 @@ content_acts p = patch_act p.block (bytes_patch p.offset p.bytes.now ∷ changes
 
 abbrev pub leaf_acts : LeafPlan → List Act
 leaf_acts p = bytes_act p.leaf p.offset p.bytes.now None ∷ size_acts p.inode p.leaf p.size p.times
-
-abbrev pub content_plan : ContentPlan → Plan
-content_plan p = record { starts = []; acts = λ begun. content_acts p }
-
-abbrev pub leaf_plan : LeafPlan → Plan
-leaf_plan p = record { starts = []; acts = λ begun. leaf_acts p }
 
 -- Steps
 

@@ -1,13 +1,13 @@
 // Attributes of an inode are set.
 
-ghost use Rattle.std.specs.Prelude.{◌≡◌, ◌++◌, IfOk, map};
-ghost use Rattle.treefs_byte_plans.specs.Attributes.{attributes_plan, attributes_planned, mode_parts, owner_parts, set_times};
+ghost use Rattle.std.specs.Prelude.{◌≡◌, ◌∷◌, ◌++◌, [], IfOk, map};
+ghost use Rattle.treefs_byte_plans.specs.Attributes.{attributes_act, attributes_planned, mode_parts, owner_parts, set_times};
 ghost use Rattle.treefs_format.specs.Fields.{changes_patch};
 
 use crate::patches::{patch_act, push_changes, push_times};
 use edit_list::Patch;
 use std::alloc::{AllocError, Global};
-use treefs_edits::{Act, Memory, Planned, Start, Times, Tree, has_room};
+use treefs_edits::{Act, ActsAlone, Memory, Times, Tree, has_room};
 use treefs_format::{Change, Fields};
 use treefs_lookup::find_inode;
 use treefs_model::Fault;
@@ -44,14 +44,10 @@ pub struct AttributesPlan {
     pub times: Times,
 }
 
-impl Planned for AttributesPlan {
-    ghost plan = { attributes_plan };
+impl ActsAlone for AttributesPlan {
+    ghost acts_of = { λ p. attributes_act p ∷ [] };
 
-    fn starts(&self, alloc: Global) -> Result<Vec<Start>, AllocError> {
-        Ok(Vec::new(alloc))
-    }
-
-    fn acts(&self, alloc: Global, _begun: &[u32]) -> Result<Vec<Act>, AllocError> {
+    fn acts_alone(&self, alloc: Global) -> Result<Vec<Act>, AllocError> {
         let mut patches = Vec::new(alloc);
         push_mode(alloc, &mut patches, self.mode)?;
         push_owner(alloc, &mut patches, self.owner)?;

@@ -1,28 +1,24 @@
 // How bytes past the size of a file become 0.
 
-ghost use Rattle.std.specs.Prelude.{◌≡◌};
-ghost use Rattle.treefs_byte_plans.specs.Blanks.{blank_plan, blank_planned, has_tail, tail_in_room};
+ghost use Rattle.std.specs.Prelude.{◌≡◌, ◌∷◌, []};
+ghost use Rattle.treefs_byte_plans.specs.Blanks.{blank_act, blank_planned, has_tail, tail_in_room};
 ghost use Rattle.treefs_lookup.specs.Readable.{readable};
 
 use crate::blank::BlankPlan;
 use crate::patches::patch_act;
 use crate::truncates::{has_bytes_behind, push_zeros};
 use std::alloc::{AllocError, Global};
-use treefs_edits::{Act, Memory, Planned, Start, Tree, has_room};
+use treefs_edits::{Act, ActsAlone, Memory, Tree, has_room};
 use treefs_format::inodes::{CONTENT, CONTENT_LEN};
 use treefs_format::sizes::{GREATEST_SIZE, LEAF_LEN};
 use treefs_lookup::{is_blank_past, leaf_block};
 use treefs_model::Fault;
 use xn_state::Store;
 
-impl Planned for BlankPlan {
-    ghost plan = { blank_plan };
+impl ActsAlone for BlankPlan {
+    ghost acts_of = { λ p. blank_act p ∷ [] };
 
-    fn starts(&self, alloc: Global) -> Result<Vec<Start>, AllocError> {
-        Ok(Vec::new(alloc))
-    }
-
-    fn acts(&self, alloc: Global, _begun: &[u32]) -> Result<Vec<Act>, AllocError> {
+    fn acts_alone(&self, alloc: Global) -> Result<Vec<Act>, AllocError> {
         let mut patches = Vec::new(alloc);
         push_zeros(alloc, &mut patches, Some(self.offset))?;
         let act = patch_act(alloc, self.block, patches, self.behind);

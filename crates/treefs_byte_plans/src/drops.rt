@@ -1,7 +1,7 @@
 // How pointers in the trees of an inode are dropped.
 
 ghost use Rattle.std.specs.Prelude.{◌≡◌};
-ghost use Rattle.treefs_byte_plans.specs.Drops.{IsDropPlanned, drop_plan, dropped};
+ghost use Rattle.treefs_byte_plans.specs.Drops.{IsDropPlanned, drop_acts, dropped};
 ghost use Rattle.treefs_lookup.specs.Readable.{readable};
 
 use crate::cuts::{POINTERS, child, next_cut};
@@ -9,18 +9,14 @@ use crate::drop_plan::DropPlan;
 use arrayvec::ArrayVec;
 use edit_list::Fs;
 use std::alloc::{AllocError, Global};
-use treefs_edits::{Act, Memory, Planned, Start, Tree, has_room, kinds};
+use treefs_edits::{Act, ActsAlone, Memory, Tree, has_room, kinds};
 use treefs_model::Fault;
 use xn_state::Store;
 
-impl Planned for DropPlan {
-    ghost plan = { drop_plan };
+impl ActsAlone for DropPlan {
+    ghost acts_of = { drop_acts };
 
-    fn starts(&self, alloc: Global) -> Result<Vec<Start>, AllocError> {
-        Ok(Vec::new(alloc))
-    }
-
-    fn acts(&self, alloc: Global, _begun: &[u32]) -> Result<Vec<Act>, AllocError> {
+    fn acts_alone(&self, alloc: Global) -> Result<Vec<Act>, AllocError> {
         let place = u16::from(self.place);
         let act = kinds::drop_blocks(
             alloc,

@@ -1,15 +1,15 @@
 // How pointers in an inode are dropped.
 
-ghost use Rattle.std.specs.Prelude.{◌≡◌, ◌+◌, ◌<◌, ◌≤◌, ◌++◌, length, map, IfOk, MatchOption};
-ghost use Rattle.treefs_byte_plans.specs.Roots.{HasNoRoots, IsRootsPlanned, blocks_of, last_offset, leaf_patches};
-ghost use Rattle.treefs_byte_plans.specs.Roots.{leaf_pointers, roots_plan, tree_patch, tree_pointer, tree_pointers};
+ghost use Rattle.std.specs.Prelude.{◌≡◌, ◌+◌, ◌<◌, ◌≤◌, ◌∷◌, ◌++◌, [], length, map, IfOk, MatchOption};
+ghost use Rattle.treefs_byte_plans.specs.Roots.{HasNoRoots, IsRootsPlanned, blocks_of, last_offset, leaf_patches, pointers_act};
+ghost use Rattle.treefs_byte_plans.specs.Roots.{leaf_pointers, tree_patch, tree_pointer, tree_pointers};
 ghost use Rattle.treefs_lookup.specs.Readable.{readable};
 
 use crate::roots_plan::{Pointer, RootsPlan};
 use arrayvec::ArrayVec;
 use edit_list::{Edit, Fs, Patch};
 use std::alloc::{AllocError, Global};
-use treefs_edits::{Act, Planned, Start};
+use treefs_edits::{Act, ActsAlone};
 use treefs_format::paths::first_leaf;
 use treefs_lookup::pointer_at;
 use xn_state::Store;
@@ -17,14 +17,10 @@ use xn_state::Store;
 /// How many pointers to leaves stand in an inode.
 const OWN_LEAVES: u32 = 16;
 
-impl Planned for RootsPlan {
-    ghost plan = { roots_plan };
+impl ActsAlone for RootsPlan {
+    ghost acts_of = { λ p. pointers_act p.inode p.trees.items p.leaves.items ∷ [] };
 
-    fn starts(&self, alloc: Global) -> Result<Vec<Start>, AllocError> {
-        Ok(Vec::new(alloc))
-    }
-
-    fn acts(&self, alloc: Global, _begun: &[u32]) -> Result<Vec<Act>, AllocError> {
+    fn acts_alone(&self, alloc: Global) -> Result<Vec<Act>, AllocError> {
         let trees = self.trees.as_slice();
         let leaves = self.leaves.as_slice();
         let mut patches = Vec::new(alloc);

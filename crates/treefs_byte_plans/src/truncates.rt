@@ -1,8 +1,8 @@
 // How a size is set.
 
-ghost use Rattle.std.specs.Prelude.{◌≡◌, ◌++◌, IfOk};
+ghost use Rattle.std.specs.Prelude.{◌≡◌, ◌∷◌, ◌++◌, [], IfOk};
 ghost use Rattle.treefs_byte_plans.specs.Kept.{HasFewLeaves};
-ghost use Rattle.treefs_byte_plans.specs.Sizes.{IsTrimToTruncate, blank_from, changed_size, has_bytes_behind, most_edits, size_in_room, size_plan};
+ghost use Rattle.treefs_byte_plans.specs.Sizes.{IsTrimToTruncate, blank_from, changed_size, has_bytes_behind, most_edits, size_act, size_in_room};
 ghost use Rattle.treefs_byte_plans.specs.Sizes.{trimmed_then, truncate_planned, truncated_file, zero_parts};
 ghost use Rattle.treefs_lookup.specs.Readable.{readable};
 
@@ -13,21 +13,17 @@ use crate::patches::patch_act;
 use crate::size::SizePlan;
 use edit_list::Patch;
 use std::alloc::{AllocError, Global};
-use treefs_edits::{Act, Memory, Planned, Start, Tree, has_room};
+use treefs_edits::{Act, ActsAlone, Memory, Tree, has_room};
 use treefs_format::inodes::{CONTENT, CONTENT_LEN};
 use treefs_format::sizes::GREATEST_SIZE;
 use treefs_lookup::{Found, find_file, is_blank_past};
 use treefs_model::Fault;
 use xn_state::Store;
 
-impl Planned for SizePlan {
-    ghost plan = { size_plan };
+impl ActsAlone for SizePlan {
+    ghost acts_of = { λ p. size_act p ∷ [] };
 
-    fn starts(&self, alloc: Global) -> Result<Vec<Start>, AllocError> {
-        Ok(Vec::new(alloc))
-    }
-
-    fn acts(&self, alloc: Global, _begun: &[u32]) -> Result<Vec<Act>, AllocError> {
+    fn acts_alone(&self, alloc: Global) -> Result<Vec<Act>, AllocError> {
         let mut patches = Vec::new(alloc);
         push_size(alloc, &mut patches, self.size, self.times)?;
         push_zeros(alloc, &mut patches, self.blank_from)?;

@@ -1,7 +1,7 @@
 // How the waits are planned that end a trim.
 
 ghost use Rattle.std.specs.Prelude.{◌≡◌, ◌<◌, ◌≤◌, ◌++◌, ◌∷◌, [], IfOk, map, slice_index};
-ghost use Rattle.treefs_byte_plans.specs.Waits.{IsWaitsPlanned, awaited, is_pending, pending_path, waits_plan};
+ghost use Rattle.treefs_byte_plans.specs.Waits.{IsWaitsPlanned, awaited, is_pending, pending_path};
 ghost use Rattle.treefs_format.specs.Paths.{leaf_count};
 ghost use Rattle.treefs_lookup.specs.Readable.{readable};
 ghost use Rattle.treefs_model.specs.Acts.{wait_act};
@@ -10,18 +10,14 @@ use crate::waits_plan::WaitsPlan;
 use arrayvec::ArrayVec;
 use edit_list::Fs;
 use std::alloc::{AllocError, Global};
-use treefs_edits::{Act, Planned, Start, kinds};
+use treefs_edits::{Act, ActsAlone, kinds};
 use treefs_lookup::{path_blocks, read_block};
 use xn_state::Store;
 
-impl Planned for WaitsPlan {
-    ghost plan = { waits_plan };
+impl ActsAlone for WaitsPlan {
+    ghost acts_of = { λ p. map (wait_act p.inode (p.first ∷ [])) p.others.items };
 
-    fn starts(&self, alloc: Global) -> Result<Vec<Start>, AllocError> {
-        Ok(Vec::new(alloc))
-    }
-
-    fn acts(&self, alloc: Global, _begun: &[u32]) -> Result<Vec<Act>, AllocError> {
+    fn acts_alone(&self, alloc: Global) -> Result<Vec<Act>, AllocError> {
         let mut acts = Vec::new(alloc);
         push_waits(
             alloc,

@@ -3,8 +3,8 @@
 ghost use Rattle.std.specs.Prelude.{◌≡◌, ◌/◌, ◌<◌, ◌∷◌, ◌++◌, [], IfOk, Some};
 ghost use Rattle.treefs_byte_plans.specs.Fields.{bytes_patch};
 ghost use Rattle.treefs_byte_plans.specs.Kept.{HasFewLeaves};
-ghost use Rattle.treefs_byte_plans.specs.Writes.{IsTrimToWrite, IsWithin, content_in_room, content_plan, first_piece, leaf_in_room};
-ghost use Rattle.treefs_byte_plans.specs.Writes.{leaf_plan, leaves_step, piece_step, planned_step, raises, write_planned, written_file};
+ghost use Rattle.treefs_byte_plans.specs.Writes.{IsTrimToWrite, IsWithin, content_acts, content_in_room, first_piece, leaf_acts, leaf_in_room};
+ghost use Rattle.treefs_byte_plans.specs.Writes.{leaves_step, piece_step, planned_step, raises, write_planned, written_file};
 ghost use Rattle.treefs_format.specs.Leaves.{greatest_size};
 ghost use Rattle.treefs_lookup.specs.Readable.{readable};
 ghost use Rattle.treefs_model.specs.Reading.{leaf_block};
@@ -17,21 +17,17 @@ use crate::piece::{ContentPlan, LeafPlan, WriteStep};
 use crate::runs::plan_run;
 use edit_list::Patch;
 use std::alloc::{AllocError, Global};
-use treefs_edits::{Act, Memory, Planned, Start, Tree, has_room, kinds};
+use treefs_edits::{Act, ActsAlone, Memory, Tree, has_room, kinds};
 use treefs_format::inodes::{CONTENT, CONTENT_LEN};
 use treefs_format::sizes::{GREATEST_SIZE, LEAF_LEN};
 use treefs_lookup::{Found, find_file, leaf_block, part_left};
 use treefs_model::Fault;
 use xn_state::Store;
 
-impl Planned for ContentPlan<'_> {
-    ghost plan = { content_plan };
+impl ActsAlone for ContentPlan<'_> {
+    ghost acts_of = { content_acts };
 
-    fn starts(&self, alloc: Global) -> Result<Vec<Start>, AllocError> {
-        Ok(Vec::new(alloc))
-    }
-
-    fn acts(&self, alloc: Global, _begun: &[u32]) -> Result<Vec<Act>, AllocError> {
+    fn acts_alone(&self, alloc: Global) -> Result<Vec<Act>, AllocError> {
         let mut patches = Vec::new(alloc);
         push_bytes(alloc, &mut patches, self.offset, self.bytes)?;
         push_size(alloc, &mut patches, self.size, self.times)?;
@@ -40,14 +36,10 @@ impl Planned for ContentPlan<'_> {
     }
 }
 
-impl Planned for LeafPlan<'_> {
-    ghost plan = { leaf_plan };
+impl ActsAlone for LeafPlan<'_> {
+    ghost acts_of = { leaf_acts };
 
-    fn starts(&self, alloc: Global) -> Result<Vec<Start>, AllocError> {
-        Ok(Vec::new(alloc))
-    }
-
-    fn acts(&self, alloc: Global, _begun: &[u32]) -> Result<Vec<Act>, AllocError> {
+    fn acts_alone(&self, alloc: Global) -> Result<Vec<Act>, AllocError> {
         let bytes = kinds::write_bytes(alloc, self.leaf, self.offset, self.bytes, None)?;
         let mut acts = Vec::from_array(alloc, [bytes])?;
         if let Some(size) = self.size {

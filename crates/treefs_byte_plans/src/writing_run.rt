@@ -94,20 +94,6 @@ fn push_attach_acts(
 }
 
 impl RunPlan {
-    /// The pointers that are missing on the path to the first leaf.
-    fn path(&self) -> ArrayVec<u16, 5>
-        ensures { result.items ≡ run_path self.now }
-    {
-        missing_path(self.leaf, self.missing)
-    }
-
-    /// How many of them lead to nodes.
-    fn node_count(&self) -> usize
-        ensures { result ≡ self.now.missing - 1 }
-    {
-        self.missing.saturating_sub(1)
-    }
-
     /// The edit that attaches leaves to the inode itself, and raises the size too.
     fn own_act(
         &self,
@@ -179,8 +165,8 @@ impl RunPlan {
         requires { IsRun self.now }
         ensures { IfOk result (λ acts. acts.items ≡ run_acts_of self.now nodes.now leaves.now) }
     {
-        let offsets = self.path();
-        let count = self.node_count();
+        let offsets = missing_path(self.leaf, self.missing);
+        let count = self.missing.saturating_sub(1);
         let holder = last_or_owner(self.owner, nodes);
         let mut acts = Vec::new(alloc);
         push_node_acts(
@@ -203,8 +189,8 @@ impl<'a> Planned for WritingRun<'a> {
 
     fn starts(&self, alloc: Global) -> Result<Vec<Start>, AllocError> {
         let plan = &self.plan;
-        let offsets = plan.path();
-        let nodes = front(offsets.as_slice(), plan.node_count());
+        let offsets = missing_path(plan.leaf, plan.missing);
+        let nodes = front(offsets.as_slice(), plan.missing.saturating_sub(1));
         let mut starts = Vec::new(alloc);
         push_node_starts(&mut starts, plan.node_type, LEAF_TYPE, nodes)?;
         let place = (plan.at % LEAF_LEN) as usize;
@@ -214,8 +200,8 @@ impl<'a> Planned for WritingRun<'a> {
 
     fn acts(&self, alloc: Global, begun: &[u32]) -> Result<Vec<Act>, AllocError> {
         let plan = &self.plan;
-        let offsets = plan.path();
-        let nodes = front(offsets.as_slice(), plan.node_count()).len();
+        let offsets = missing_path(plan.leaf, plan.missing);
+        let nodes = front(offsets.as_slice(), plan.missing.saturating_sub(1)).len();
         plan.acts_of(alloc, front(begun, nodes), behind(begun, nodes))
     }
 }

@@ -141,7 +141,7 @@ impl Run {
         };
         let index = self.pick_name();
         let wanted = self.model.naming(place, index, way == Way::Replace);
-        let generation = self.pasts.len() as u32;
+        let generation = u32::try_from(self.pasts.len()).unwrap_or(u32::MAX);
         let count = match way {
             Way::Create | Way::Mkdir => 0,
             Way::Symlink => usize::from(self.numbers.below(384)),

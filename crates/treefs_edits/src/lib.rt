@@ -19,7 +19,7 @@ mod tree;
 
 pub use act::Act;
 pub use memory::{Memory, Touched};
-pub use plan::{Planned, carry_out};
+pub use plan::{ActsAlone, Planned, carry_out};
 pub use room::{has_room, have_room};
 pub use runs::run;
 pub use start::{Start, begin_all, forget_all, lacks_memory, start_fault};

@@ -1,6 +1,7 @@
 // A plan of a call, and how it is carried out.
 
-ghost use Rattle.std.specs.Prelude.{◌≡◌, IfOk};
+ghost use Rattle.std.specs.Prelude.{◌≡◌, [], IfOk, List};
+ghost use Rattle.treefs_model.specs.Acts as model;
 ghost use Rattle.treefs_edits.specs.Plans.{Does, Keeps, Plan};
 
 use crate::act::Act;
@@ -24,6 +25,28 @@ pub trait Planned {
     /// Its acts, which may name these blocks, in the order of `starts`. `Err` comes only for want of memory.
     fn acts(&self, alloc: Global, begun: &[u32]) -> Result<Vec<Act>, AllocError>
         ensures { IfOk result (λ acts. acts.items ≡ (plan self.now).acts begun.now) };
+}
+
+/// What a call is to do that begins no block.
+pub trait ActsAlone {
+    /// Its acts, as values.
+    ghost acts_of: { Self → List model.Act };
+
+    /// Its acts. `Err` comes only for want of memory.
+    fn acts_alone(&self, alloc: Global) -> Result<Vec<Act>, AllocError>
+        ensures { IfOk result (λ acts. acts.items ≡ acts_of self.now) };
+}
+
+impl<P: ActsAlone> Planned for P {
+    ghost plan = { λ p. record { starts = []; acts = λ begun. P.acts_of p } };
+
+    fn starts(&self, alloc: Global) -> Result<Vec<Start>, AllocError> {
+        Ok(Vec::new(alloc))
+    }
+
+    fn acts(&self, alloc: Global, _begun: &[u32]) -> Result<Vec<Act>, AllocError> {
+        self.acts_alone(alloc)
+    }
 }
 
 /// Carries out a plan. Where it stops, the acts before the one that was refused stand, and of the begun blocks those are forgotten that

@@ -1,6 +1,6 @@
 // The lives of all blocks, with what is counted of them.
 
-ghost use Rattle.std.specs.Prelude.{◌≡◌, ℕ, ◌^◌, ◌<◌, ◌≤◌, ◌&&◌, ◌==◌, All, false, length, map, replicate, Option, Some, None, IfOk, IfSome, IsTrue, OnOk};
+ghost use Rattle.std.specs.Prelude.{◌≡◌, ℕ, ◌^◌, ◌<◌, ◌≤◌, ◌&&◌, ◌==◌, All, false, length, map, Option, Some, None, IfOk, IfSome, IsTrue, OnOk};
 ghost use Rattle.std.specs.Prelude.{OnErr, is_some, is_none, count_by, option_map, position, slice_get, slice_set, sum_by};
 ghost use Rattle.std.specs.Option.{option_copied};
 ghost use Rattle.xn_model.specs.Lists.{distinct};
@@ -28,6 +28,7 @@ use claims::OwnedCounts;
 use dependencies::Index;
 use edit_list::{EditId, Fs, Undo};
 use free_map::FreeMap;
+use reserved_row::ReservedRow;
 use std::alloc::{AllocError, Global};
 use std::marker::Model;
 use store_types::{BLOCK_LEN, Refusal, Status};
@@ -79,10 +80,10 @@ impl Lives {
     {
         let (blocks, _) = image.as_chunks::<BLOCK_LEN>();
         let count = blocks.len() as u32;
-        let mut places = no_places(alloc, blocks.len())?;
+        let mut places = ReservedRow::new(alloc, blocks.len(), None)?;
         let mut free = FreeMap::new(alloc, count)?;
         for block in found {
-            places[block.block as usize] = Some(found_life(block));
+            places.set(block.block as usize, Some(found_life(block)));
             free.take(block.block);
         }
         let owned = OwnedCounts::found(alloc, &places)?;
@@ -302,17 +303,6 @@ fn set_dropped(cache: &mut Cache, owner: u32, drops: &[u32])
     for block in drops {
         cache.set_status(*block, Status::Dropped(owner));
     }
-}
-
-/// A place for each of so many blocks, of which nothing is found.
-fn no_places(alloc: Global, blocks: usize) -> Result<Vec<Option<FoundLife>>, AllocError>
-    ensures { IfOk result (λ places. places.items ≡ replicate blocks None) }
-{
-    let mut places = Vec::with_capacity(alloc, blocks)?;
-    for _block in 0..blocks {
-        places.push_reserved(None);
-    }
-    Ok(places)
 }
 
 /// What is found of a block beside its bytes.

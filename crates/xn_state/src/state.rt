@@ -18,13 +18,13 @@ use crate::found::Found;
 use crate::lives::Lives;
 use arrayvec::ArrayVec;
 use block_cache::LiveBlock;
-use claims::ReadSets;
 use edit_list::{EditId, Fs};
+use reserved_row::ReservedRow;
 use std::alloc::{AllocError, Global};
 use std::marker::Model;
 use store_types::{BLOCK_LEN, DATA_TYPE, MAX_PENDING, MAX_PENDING_IN_BLOCK, Refusal};
 use templates::Table;
-use udf_run::Pair;
+use udf_run::{Pair, ReadSet};
 
 mod accept;
 mod answers;
@@ -35,12 +35,12 @@ mod propose;
 mod ready;
 mod roots;
 
-/// What a store knows of its blocks, beside the disk.
+/// What a store knows of its blocks, beside the disk: of each block also the chunks that decide what its newest bytes own, where they are known.
 pub struct State {
     alloc: Global,
     table: Table,
     lives: Lives,
-    reads: ReadSets,
+    reads: ReservedRow<Option<ReadSet>>,
     next: u64,
 }
 
@@ -85,7 +85,7 @@ impl State {
     {
         table.rules();
         let lives = Lives::found(alloc, image, found)?;
-        let reads = ReadSets::new(alloc, lives.blocks())?;
+        let reads = ReservedRow::new(alloc, lives.blocks() as usize, None)?;
         Ok(State {
             alloc,
             table,
@@ -173,7 +173,7 @@ impl State {
         else {
             return Err(Refusal::NoMemory);
         };
-        self.reads.set(block, None);
+        self.reads.set(block as usize, None);
         self.next += 1;
         Ok((block, number))
     }

@@ -62,7 +62,7 @@ impl State {
         else {
             return Err(Refusal::NoMemory);
         };
-        self.reads.set(block, reads);
+        self.reads.set(block as usize, reads);
         self.next += 1;
         Ok(number)
     }

@@ -103,7 +103,7 @@ impl State {
         let ty = FIRST_INSTALLED_TYPE + place as u32;
         self.table.rules();
         self.table.put(ty, read);
-        self.reads.set(block, None);
+        self.reads.set(block as usize, None);
         self.reads.set(0, None);
         self.next += 2;
         Ok(Installed {

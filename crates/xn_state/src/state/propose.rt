@@ -140,7 +140,7 @@ impl State {
         ensures leaves { IfSome result (λ reads. Leaves reads.chunks edit.now) }
         ensures rules { IsConsistent (own_types self.now) self.now }
     {
-        let reads = self.reads.get(block)?;
+        let reads = self.reads.item(block as usize)?;
         if leaves(reads, edit) {
             Some(reads)
         } else {

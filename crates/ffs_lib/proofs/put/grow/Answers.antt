@@ -71,10 +71,10 @@ returns g c =
           let done = begins_by (g.S.Store.types_of c.args.store.now) T fs 2 _ (put zero_block 0 bytes) zeroth first (block, number) e c.block_with.ensures c.in_ok-block.ensures.state in
           let types = c.init.ensures.types ∙ e in
           let exact = c.in_ok-home.ensures.exact (subst IsLibrary (sym types) s.library) in
-          let size = 512 * c.count_blocks-size.result in
+          let size = 512 * c.count_blocks.result in
           let set = ap fields_of c.bytes.ensures.bytes ∙ (c.set_size.ensures.fields ∙ ap (λ (f : Fields). record f { size = size }) c.set_direct.ensures.fields) in
           let sized : size ≡ 512 * length (inode_blocks c.bytes.result.now) =
-          ap (λ k. 512 * k) (c.count_blocks-size.ensures.exact ∙ ap (λ (bs : List ℕ). length bs) (sym (same_blocks c.set_direct.new.self _ direct))) in
+          ap (λ k. 512 * k) (c.count_blocks.ensures.exact ∙ ap (λ (bs : List ℕ). length bs) (sym (same_blocks c.set_direct.new.self _ direct))) in
           let edit = edit_at (64 * found.place) _ ((block, 2) ∷ []) [] (Some c.args.after) in
           attaches T fs block found.block edit array first new _ _
           (grow_stage T fs array zeroth first s c.args.number directory dir n c.args.after m bytes name b c.args.index c.requires empty gap block number done) c.attach.result (c.attach.ensures.put T types)
@@ -88,7 +88,7 @@ returns g c =
           let mine : found.inode ≡ directory = same_ok found.inode directory ((c.in_ok-home.ensures.exact (subst IsLibrary (sym types) s.library)) ∙ sym again) in
           let same : found.block ≡ home = same_ok found.block home (home_begun T fs array zeroth first s block number (put zero_block 0 bytes) done _ found.block (home_of first fs _ found.block found.place at) ∙ sym is_home) in
           let pointing = c.set_direct.ensures.bytes ∙ ap (λ (i : List ℕ). put i (8 + 4 * c.args.index) (to_le_bytes w32 block)) mine in
-          let size = ap (λ (k : ℕ). 512 * k) c.count_blocks-size.ensures.exact in
+          let size = ap (λ (k : ℕ). 512 * k) c.count_blocks.ensures.exact in
           let after = c.bytes.ensures.bytes ∙ (c.set_size.ensures.bytes
           ∙ (ap (λ (k : ℕ). put c.set_direct.new.self 4 (to_le_bytes w32 k)) size ∙ ap (λ (i : List ℕ). put i 4 (to_le_bytes w32 (512 * length (inode_blocks i)))) pointing)) in
           let put1 = subst (λ (i : List ℕ). Attached T fs block found.block (edit_at (64 * found.place) i ((block, 2) ∷ []) [] (Some c.args.after)) first new c.attach.result) after (c.attach.ensures.put T types) in

@@ -4,5 +4,5 @@ use Rattle.block_cache.specs.Views.{rest_at}
 use Rattle.claims.proofs.Counted.{AreCountedTo}
 use Rattle.claims.proofs.counts.OwnedCounts.found.Given as goal
 
-abbrev pub invariant-loop-life : goal.invariant-loop-life
-invariant-loop-life l = (blocks : List (List ℕ)) → AreCountedTo l.owned (map (rest_at l.found blocks) (range_with_len 0 (length l.found))) l.life-index
+abbrev pub invariant-loop-block : goal.invariant-loop-block
+invariant-loop-block l = (blocks : List (List ℕ)) → AreCountedTo l.owned (map (rest_at l.found blocks) (range_with_len 0 (length l.found))) l.block

@@ -11,7 +11,7 @@ returns-in_err-block-clause-none c =
 
 pub invariant_of-self : goal.invariant_of-self
 invariant_of-self c =
-    rw (c.set-2.ensures, c.set.ensures, c.get-next.ensures) (popped c.self.inside.waits_for c.self.inside.first c.self.inside.next c.args.other c.in_ok-block.block c.self.invariant (sym c.in_ok-block.ensures))
+    rw (c.set-2.ensures, c.set.ensures, c.item-next.ensures) (popped c.self.inside.waits_for c.self.inside.first c.self.inside.next c.args.other c.in_ok-block.block c.self.invariant (sym c.in_ok-block.ensures))
 
 pub returns-clause-some : goal.returns-clause-some
 returns-clause-some c =

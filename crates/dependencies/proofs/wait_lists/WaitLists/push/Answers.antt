@@ -9,4 +9,4 @@ invariant_of-self c =
     let other : c.args.other < length c.self.inside.waits_for = omega (arith, c.requires.other, long) in
     let block : c.args.block < length c.self.inside.waits_for = omega (arith, c.requires.block, long) in
     let free = ap (λ (row : List (Option ℕ)). at row c.args.block) c.self.view_is ∙ c.requires.free in
-    rw (c.set-3.ensures, c.set-2.ensures, c.set.ensures, c.get-first.ensures) (pushed c.self.inside.waits_for c.self.inside.first c.self.inside.next c.args.other c.args.block other block free c.self.invariant)
+    rw (c.set-3.ensures, c.set-2.ensures, c.set.ensures, c.item-first.ensures) (pushed c.self.inside.waits_for c.self.inside.first c.self.inside.next c.args.other c.args.block other block free c.self.invariant)

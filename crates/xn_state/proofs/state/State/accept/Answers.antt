@@ -1,5 +1,4 @@
-use Rattle.std.proofs.Common.{◌∙◌, ap, arith, slice_set, sym, subst}
-use Rattle.std.specs.Prelude.{is_some, IsTrue}
+use Rattle.std.proofs.Common.{◌∙◌, ap, slice_set, sym, subst}
 use Rattle.xn_model.specs.Lives.{StoreState, accepted_at, life_at}
 use Rattle.xn_model.specs.Calls.{accepts, life_bytes}
 use Rattle.block_cache.specs.NewBytes.{new_bytes}
@@ -7,7 +6,7 @@ use Rattle.block_cache.specs.Claims.{ClaimValue, claimed_state}
 use Rattle.xn_state.specs.Proposals.{accepted_entry}
 use Rattle.xn_state.specs.States.{Continues, own_types}
 use Rattle.claims.specs.Decided.{Decides}
-use Rattle.claims.proofs.ForCallers.{accepted_decided, alive_place}
+use Rattle.claims.proofs.ForCallers.{accepted_decided}
 use Rattle.dependencies.specs.Pending.{pends}
 use Rattle.xn_state.proofs.Keeping as keeping
 use Rattle.xn_state.proofs.Newest.{none_next}
@@ -24,11 +23,6 @@ invariant_of-self-2 c =
     let decides = subst (λ (s : StoreState). Decides (own_types s) s.lives c.args.block (bytes s) c.args.reads) (sym c.self.view_is) c.requires.reads in
     let decided = accepted_decided (own_types old) c.self.inside.reads c.self.inside.lives c.args.block entry c.args.reads c.self.invariant.decided decides in
     rw (c.set.ensures, lives) (keeping.goes_on c.self.inside.table c.self.inside.reads (slice_set c.self.inside.reads c.args.block c.args.reads) old (accepts old c.args.block entry).1 c.self.invariant kept decided)
-
-pub set-requires : goal.set-requires
-set-requires c =
-    let alive = subst (λ (s : StoreState). IsTrue (is_some (life_at s.lives c.args.block))) (sym c.self.view_is) c.requires.alive in
-    omega (arith, alive_place c.self.inside.lives c.args.block alive, c.self.invariant.decided.long)
 
 pub accept-requires-clause-fresh : goal.accept-requires-clause-fresh
 accept-requires-clause-fresh c =

@@ -1,9 +1,7 @@
-use Rattle.std.proofs.Common.{◌∙◌, ◌+◌, None, Some, ap, arith, slice_set, sym}
-use Rattle.std.proofs.lemmas.Option.{slice_get_within}
+use Rattle.std.proofs.Common.{◌∙◌, ◌+◌, None, Some, ap, slice_set, sym}
 use Rattle.xn_model.specs.Lives.{StoreState}
 use Rattle.xn_model.specs.Calls.{init_refusal, new_life}
 use Rattle.xn_state.specs.States.{own_types}
-use Rattle.dependencies.proofs.ForCallers.{least_is_free}
 use Rattle.claims.proofs.ForCallers.{started_decided}
 use Rattle.xn_state.proofs.Keeping.{continues, goes_on, started_keeps, state_of}
 use Rattle.xn_state.proofs.Newest.{none_next}
@@ -22,11 +20,6 @@ invariant_of-self-2 c =
     let decided = started_decided T c.self.inside.reads lives block next (Some fs) c.args.ty c.args.bytes.now c.self.invariant.decided in
     let new = state_of (slice_set lives block (Some (new_life next (Some fs) c.args.ty c.args.bytes.now))) (next + 1) in
     rw (c.set.ensures, c.in-Ok.ensures.ok) (goes_on c.self.inside.table c.self.inside.reads (slice_set c.self.inside.reads block None) old new c.self.invariant (continues old new kept) decided)
-
-pub set-requires : goal.set-requires
-set-requires c =
-    let free = least_is_free c.self.inside.lives c.in-Some-lowest_free.block (sym c.in-Some-lowest_free.ensures) in
-    omega (arith, slice_get_within c.self.inside.lives c.in-Some-lowest_free.block None free, c.self.invariant.decided.long)
 
 pub start-requires-clause-fresh : goal.start-requires-clause-fresh
 start-requires-clause-fresh c = none_next (own_types (state_of c.self.inside.lives c.self.inside.next)) (state_of c.self.inside.lives c.self.inside.next) c.self.invariant.rules

@@ -1,6 +1,5 @@
 use Rattle.std.proofs.Common.{◌≡◌, ◌∙◌, ◌+◌, ◌-◌, Err, None, Ok, Some, ap, arith, inl, refl, slice_set, subst, sym}
 use Rattle.std.specs.Prelude.{is_some}
-use Rattle.std.proofs.lemmas.Option.{slice_get_within}
 use Rattle.std.proofs.lemmas.Result.{err_from_is_err_and}
 use Rattle.xn_model.specs.Lives.{Lives, StoreState}
 use Rattle.store_types.specs.declared.refusal.Refusal.TheVariants.{NoMemory}
@@ -12,7 +11,6 @@ use Rattle.templates.specs.Language.{language}
 use Rattle.templates.proofs.ForCallers.{language_ok, none_there}
 use Rattle.xn_state.specs.Installs.{install_places, installed_lives}
 use Rattle.xn_state.specs.States.{IsStateOf, own_types}
-use Rattle.dependencies.proofs.ForCallers.{least_is_free}
 use Rattle.xn_state.proofs.Extended.{done, is_state, left}
 use Rattle.xn_state.proofs.Keeping.{state_of}
 use Rattle.xn_state.proofs.Newest.{none_from}
@@ -75,12 +73,6 @@ put-requires-clause-empty c =
     let place = place_is old c.args.template.now (c.in_ok-place.place, c.in_ok-place.block) (ap install_places c.self.view_is ∙ sym c.in_ok-place.ensures.places) in
     let at = model.place_is (root_now old) c.in_ok-place.place place in
     none_there c.self.inside.table (latest old.lives) c.in_ok-place.place at.0 c.self.invariant.own at.1
-
-pub set-requires : goal.set-requires
-set-requires c =
-    let old = state_of c.self.inside.lives c.self.inside.next in
-    let free = block_is old c.args.template.now (c.in_ok-place.place, c.in_ok-place.block) (ap install_places c.self.view_is ∙ sym c.in_ok-place.ensures.places) in
-    omega (arith, slice_get_within c.self.inside.lives c.in_ok-place.block None (least_is_free c.self.inside.lives c.in_ok-place.block free), c.self.invariant.decided.long)
 
 pub overflow_add-self : goal.overflow_add-self
 overflow_add-self c =
