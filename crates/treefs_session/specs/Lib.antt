@@ -1,0 +1,5 @@
+pub mod Tries
+pub mod Freeing
+pub mod Pieces
+pub mod Puts
+pub mod Opening
