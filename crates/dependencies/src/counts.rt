@@ -1,6 +1,6 @@
 // What is counted of the entries of a block, and whether there are any.
 
-ghost use Rattle.std.specs.Prelude.{◌≡◌, ℕ, ◌+◌, ◌<◌, ◌≤◌, [], false, IfNone, IfSome, Some, count_by, slice_index, slice_set};
+ghost use Rattle.std.specs.Prelude.{◌≡◌, ℕ, ◌+◌, ◌<◌, ◌≤◌, [], false, IfNone, IfSome, Some, count_by, length, slice_index, slice_set};
 ghost use Rattle.std.specs.Option.{option_copied};
 ghost use Rattle.xn_model.specs.Lives.{drops_of, is_for, life_at};
 ghost use Rattle.xn_model.specs.Calls.{first_pending, life_pending};
@@ -9,7 +9,7 @@ ghost use Rattle.block_cache.specs.Systems.{system_of};
 ghost use Rattle.dependencies.specs.Counts.{claim_drops, counted_for, given, noted_for};
 
 use crate::oldest::note_number;
-use block_cache::{Cache, Claim, Fs};
+use block_cache::{Cache, Claim, Fs, LiveBlock};
 use free_map::{BlockSet, FreeMap};
 
 /// Takes the first entries of a block out of the counts. Answers for which file system the last of them counted, of which no
@@ -69,28 +69,27 @@ pub struct TakenOut {
     pub has_drops: bool,
 }
 
-/// Takes the first entries of a block out of the counts, and frees the blocks that they drop.
+/// Takes the first entries of a life out of the counts, and frees the blocks that they drop.
 #[inline(always)]
 pub fn take_out(
     pending: &mut [u32; 32],
     free: &mut FreeMap,
-    cache: &Cache,
-    block: u32,
+    life: &LiveBlock<'_>,
     count: usize,
 ) -> TakenOut
-    requires within { count ≤ life_pending (life_at cache.now block) }
-    requires counted { (fs : ℕ) → fs < 32 → count_by (λ s. is_for fs s.fs) (first_pending count (life_at cache.now block)) ≤ slice_index pending.old fs }
-    ensures pending { (fs : ℕ) → fs < 32 → slice_index pending.new fs + count_by (λ s. is_for fs s.fs) (first_pending count (life_at cache.now block))
+    requires within { count ≤ length life.now.pending }
+    requires counted { (fs : ℕ) → fs < 32 → count_by (λ s. is_for fs s.fs) (first_pending count (Some life.now)) ≤ slice_index pending.old fs }
+    ensures pending { (fs : ℕ) → fs < 32 → slice_index pending.new fs + count_by (λ s. is_for fs s.fs) (first_pending count (Some life.now))
         ≡ slice_index pending.old fs }
-    ensures free { free.new ≡ given free.old (drops_of (first_pending count (life_at cache.now block))) }
-    ensures drops { result.has_drops ≡ false → drops_of (first_pending count (life_at cache.now block)) ≡ [] }
+    ensures free { free.new ≡ given free.old (drops_of (first_pending count (Some life.now))) }
+    ensures drops { result.has_drops ≡ false → drops_of (first_pending count (Some life.now)) ≡ [] }
 {
     let mut taken = TakenOut {
         fs: None,
         has_drops: false,
     };
     for place in 0..count {
-        let claim = cache.claim(block, place);
+        let claim = life.claim(place);
         taken.fs = discount_one(pending, claim);
         let has_drops = give_each(free, claim);
         taken.has_drops |= has_drops;

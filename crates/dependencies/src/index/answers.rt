@@ -1,6 +1,6 @@
 // What is read off an index and the lives that it is of.
 
-ghost use Rattle.std.specs.Prelude.{◌≡◌, ◌≤◌, count_by, is_none, position, sum_by};
+ghost use Rattle.std.specs.Prelude.{◌≡◌, ◌≤◌, Some, count_by, is_none, position, sum_by};
 ghost use Rattle.xn_model.specs.Lives.{Lives, entries_of, least_to, life_at, lowest_free, prefix_of};
 ghost use Rattle.xn_model.specs.Calls.{is_ready, is_tainted, life_pending, pending_in};
 ghost use Rattle.dependencies.specs.Index.{IsIndex};
@@ -10,7 +10,7 @@ use crate::floors::least_for;
 use crate::index::Index;
 use crate::oldest::home_for;
 use crate::safe::is_safe_at;
-use block_cache::{Cache, Fs};
+use block_cache::{Cache, Fs, LiveBlock};
 
 impl Index {
     /// The least free block.
@@ -59,17 +59,15 @@ impl Index {
         least_for(cache, &self.dirty, fs, most, self.pending[fs.index()])
     }
 
-    /// How many pending entries of a block, from the first on, are safe: they may go to the disk together.
+    /// How many pending entries of a block, of which this is the life, from the first on, are safe: they may go to the disk together.
     #[inline(always)]
-    pub fn safe_prefix(&self, cache: &Cache, block: u32) -> u32
+    pub fn safe_prefix(&self, cache: &Cache, block: u32, life: &LiveBlock<'_>) -> u32
         requires index { IsIndex cache.now self.now }
         requires typed { FindsTypes cache.now }
+        requires life { life_at cache.now block ≡ Some life.now }
         ensures count { result ≡ prefix_of cache.now (life_at cache.now block) }
         ensures within { result ≤ life_pending (life_at cache.now block) }
     {
-        let Some(life) = cache.live(block) else {
-            return 0;
-        };
         let pending = life.facts().pending;
         for place in 0..pending {
             let claim = life.claim(place);
@@ -86,7 +84,12 @@ impl Index {
         requires typed { FindsTypes cache.now }
         ensures { result ≡ is_tainted cache.now (life_at cache.now block) }
     {
-        (self.safe_prefix(cache, block) as usize) < cache.pending(block)
+        match cache.live(block) {
+            Some(life) => {
+                (self.safe_prefix(cache, block, &life) as usize) < life.facts().pending
+            }
+            None => false,
+        }
     }
 
     /// Whether no write of a block is under way, and some of its pending entries are safe.

@@ -12,7 +12,7 @@ ghost use Rattle.dependencies.specs.Pending.{pends};
 use crate::counts::{TakenOut, count_entry, discount, mark, take_out, with_pending};
 use crate::index::Index;
 use crate::oldest::move_on;
-use block_cache::{Cache, Fs};
+use block_cache::{Cache, Fs, LiveBlock};
 
 impl Index {
     /// Notes a life that starts on a free block, with its first entry of this number.
@@ -56,17 +56,24 @@ impl Index {
         self.candidates.trim(cache, &self.dirty, &self.homes);
     }
 
-    /// Takes out the first entries of a block, which a write makes durable, and frees the blocks that they drop.
+    /// Takes out the first entries of a block, of which this is the life, which a write makes durable, and frees the blocks that they drop.
     #[inline(always)]
-    pub fn take_out(&mut self, cache: &Cache, block: u32, count: usize) -> TakenOut
+    pub fn take_out(
+        &mut self,
+        cache: &Cache,
+        block: u32,
+        life: &LiveBlock<'_>,
+        count: usize,
+    ) -> TakenOut
         requires index { IsIndex cache.now self.old }
+        requires life { life_at cache.now block ≡ Some life.now }
         requires within { count ≤ life_pending (life_at cache.now block) }
         ensures drops { result.has_drops ≡ false → drops_of (first_pending count (life_at cache.now block)) ≡ [] }
         ensures index { MayFree cache.now block (drops_of (first_pending count (life_at cache.now block))) →
             IsIndex (freed (settled_at cache.now block count) (drops_of (first_pending count (life_at cache.now block)))) self.new }
     {
-        let taken = take_out(&mut self.pending, &mut self.free, cache, block, count);
-        let left = cache.pending(block) - count;
+        let taken = take_out(&mut self.pending, &mut self.free, life, count);
+        let left = life.facts().pending - count;
         mark(&mut self.dirty, block, left > 0);
         self.candidates.wake(block);
         self.candidates.set(block, left > 0);

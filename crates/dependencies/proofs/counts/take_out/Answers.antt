@@ -1,5 +1,5 @@
-use Rattle.std.proofs.Common.{◌<◌, ◌∙◌, ap, sym, arith}
-use Rattle.xn_model.specs.Lives.{drops_of, life_at}
+use Rattle.std.proofs.Common.{◌<◌, ◌∙◌, Some, ap, sym, arith}
+use Rattle.xn_model.specs.Lives.{drops_of}
 use Rattle.xn_model.specs.Calls.{first_pending, life_pending}
 use Rattle.dependencies.specs.Pending.{claim_count}
 use Rattle.dependencies.proofs.FirstEntries.{counts_more, counts_within}
@@ -9,7 +9,7 @@ use Rattle.dependencies.proofs.counts.take_out.Goals as goal
 
 pub discount_one-taken-requires : goal.discount_one-taken-requires
 discount_one-taken-requires c =
-    let o = life_at c.args.cache.now c.args.block in
+    let o = Some c.args.life.now in
     λ fs few. omega (
       arith,
       ap (claim_count fs) c.claim-claim.ensures,
@@ -20,7 +20,7 @@ discount_one-taken-requires c =
 
 pub loop-place-preserved : goal.loop-place-preserved
 loop-place-preserved c =
-    let o = life_at c.args.cache.now c.args.block in
+    let o = Some c.args.life.now in
     let within : c.loop-place.place < life_pending o = omega (arith, c.loop-place-test.true, c.requires.within) in
     let more = drops_more c.loop-place.place o within in
     record {
