@@ -1,7 +1,7 @@
 -- Leaves of inode 0 that can be given, and those whose pointers stand beside theirs.
 use Rattle.std.proofs.Common.{◌≡◌, ℕ, ◌+◌, ◌-◌, ◌<◌, ◌≤◌, Bool, List, sym, ◌∙◌, ap, inl, inr, arith, subst, eq-eqb, if◌then◌else◌}
 use Rattle.std.proofs.Math.Seq.{drop-cons}
-use Rattle.std.proofs.lemmas.Bool.{cases_lt, le-ltb, lt-ltb}
+use Rattle.std.proofs.lemmas.Bool.{cases_lt, lt-ltb}
 use Rattle.xn_model.specs.Lives.{StoreState}
 use Rattle.xn_model.specs.PendingIn.{pending_in_of}
 use Rattle.treefs_format.specs.Paths.{last_beside, leaf_count, steps}
@@ -78,9 +78,6 @@ module _ (state : StoreState) (fs top i : ℕ) (lt : i < leaf_count) (r : Reach)
 
 turn_low : (hint n : ℕ) → n < hint → turn hint n ≡ n + leaf_count
 turn_low hint n lt = ap (λ (t : Bool). if t then n + leaf_count else n) (lt-ltb n hint lt)
-
-turn_high : (hint n : ℕ) → hint ≤ n → turn hint n ≡ n
-turn_high hint n ge = ap (λ (t : Bool). if t then n + leaf_count else n) (le-ltb n hint ge)
 
 module _ (state : StoreState) (fs top hint leaf : ℕ) where
   number_at : CanGive state fs top leaf → CanGive state fs top (leaf + 1 - 1)

@@ -1,8 +1,8 @@
 -- Writes that are under way: of all blocks, and of a world that is down, which has none.
-use Rattle.std.proofs.Common.{◌≡◌, ◌<◌, ℕ, zero, suc, true, false, Option, Some, None, List, [], ◌∷◌, length, ap, refl, arith}
+use Rattle.std.proofs.Common.{◌≡◌, ◌<◌, ℕ, suc, false, Option, Some, None, List, [], ◌∷◌, length, ap, refl, arith}
 use Rattle.std.specs.Prelude.{is_some}
 use Rattle.std.specs.List.{list_any}
-use Rattle.std.proofs.lemmas.Bool.{false≢true, or_from, or_left, or_right}
+use Rattle.std.proofs.lemmas.Bool.{or_from}
 use Rattle.xn_model.specs.Lives.{Life, Lives, life_at, alive_and}
 use Rattle.xn_model.specs.Mounts.{recovered}
 use Rattle.xn_model.specs.Worlds.{mounted_state}
@@ -20,11 +20,6 @@ down_is_calm image b disk =
     let lives = recovered (types_of_image image) image in
     let recovers = sound_recovers image disk in
     calm (life_at lives b) (λ l here. (recovers.only b l here).idle)
-
-pub one_busy : (lives : Lives) (b : ℕ) → alive_and (λ l. is_some l.begun) (life_at lives b) ≡ true → list_any (alive_and (λ l. is_some l.begun)) lives ≡ true
-one_busy [] b busy = absurd (false≢true busy)
-one_busy (o ∷ os) zero busy = or_left (alive_and (λ l. is_some l.begun) o) (list_any (alive_and (λ l. is_some l.begun)) os) busy
-one_busy (o ∷ os) (suc b) busy = or_right (alive_and (λ l. is_some l.begun) o) (list_any (alive_and (λ l. is_some l.begun)) os) (one_busy os b busy)
 
 pub none_busy : (lives : Lives) → ((b : ℕ) → b < length lives → alive_and (λ l. is_some l.begun) (life_at lives b) ≡ false) → list_any (alive_and (λ l. is_some l.begun)) lives ≡ false
 none_busy [] calm = refl

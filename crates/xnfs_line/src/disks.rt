@@ -1,6 +1,6 @@
 // Disks in files: made with an empty volume, and opened.
 
-use crate::fault::{Fault, Reason, reason_of};
+use crate::fault::{Fault, Reason};
 use crate::opened::Opened;
 use crash_check::{ImageFault, mount, mount_known, state_of};
 use disk::{Lane, MemDisk, MemLane, fresh_lanes};
@@ -10,7 +10,7 @@ use std::alloc::{AllocError, Global};
 use std::fs::{File, Files};
 use std::thread::Threads;
 use store_types::{BLOCK_LEN, MAX_BLOCKS, MIN_BLOCKS};
-use templates::format_image;
+use templates::{FormatFault, format_image};
 use xn_kernel::Kernel;
 use xnfs_session::{FfsFault, Fs, Session, Stop, TestLane, has_volume};
 
@@ -31,6 +31,14 @@ fn image_fault(fault: ImageFault) -> Fault {
     }
 }
 
+/// What is told of a disk that isn't made.
+fn format_fault(fault: FormatFault) -> Fault {
+    match fault {
+        FormatFault::NoMemory => Fault::NoMemory,
+        _ => Fault::Format(fault),
+    }
+}
+
 /// The first bytes of a fresh disk of so many blocks, with an empty volume of a file system. Behind them are zeros alone.
 fn fresh_head(
     threads: &(impl Threads + Sync),
@@ -39,11 +47,12 @@ fn fresh_head(
     fs: Fs,
 ) -> Result<Vec<u8>, Fault> {
     let templates = templates(alloc)?;
-    let Ok(image) = format_image(alloc, blocks.min(MOST_HELD), &templates) else {
-        return Err(Fault::NoMemory);
+    let image = match format_image(alloc, blocks.min(MOST_HELD), &templates) {
+        Ok(image) => image,
+        Err(fault) => return Err(format_fault(fault)),
     };
     if image.len() % BLOCK_LEN != 0 || image.len() > BLOCK_LEN * MAX_BLOCKS as usize {
-        return Err(Fault::NoMemory);
+        return Err(Fault::Image(ImageFault::BadLength));
     }
     let lanes = fresh_lanes(alloc, &image)?;
     let kernel = match mount(threads, alloc, lanes, 1) {
@@ -51,8 +60,9 @@ fn fresh_head(
         Err((fault, _lanes)) => return Err(image_fault(fault)),
     };
     let made: Result<Session<Kernel<MemLane>>, _> = Session::make(alloc, kernel, fs);
-    let Ok(mut session) = made else {
-        return Err(Fault::NoMemory);
+    let mut session = match made {
+        Ok(session) => session,
+        Err(fault) => return Err(Fault::of_all(fault, 0)),
     };
     if let Err(refusal) = session.flush(alloc) {
         return Err(Fault::Flush(refusal));
@@ -83,12 +93,12 @@ pub fn format<R: Files<File = File>>(
     blocks: u32,
     fs: Fs,
 ) -> Result<(), Fault> {
+    if !(MIN_BLOCKS..=MAX_BLOCKS).contains(&blocks) {
+        return Err(Fault::Format(FormatFault::BadCount));
+    }
     let head = fresh_head(threads, alloc, blocks, fs)?;
     if head.len() < BLOCK_LEN || head.len() > BLOCK_LEN * blocks as usize {
-        return Err(Fault::NoMemory);
-    }
-    if !(MIN_BLOCKS..=MAX_BLOCKS).contains(&blocks) {
-        return Err(Fault::NoMemory);
+        return Err(Fault::Image(ImageFault::BadLength));
     }
     Ok(FileDisk::write_fresh(rt, alloc, image, &head, blocks)?)
 }
@@ -132,7 +142,7 @@ fn open_volume<L: Lane + Drop>(
     match Session::open(alloc, kernel, fs) {
         Ok(session) => Opened::new(alloc, session),
         Err(FfsFault::NoEntry) => Err(Fault::Volume(Reason::NoInodes)),
-        Err(fault) => Err(Fault::Volume(reason_of(fault, 0))),
+        Err(fault) => Err(Fault::of_all(fault, 0)),
     }
 }
 

@@ -7,6 +7,7 @@ use file_disk::FileFault;
 use std::alloc::{AllocError, AllocFailed, Global};
 use std::io;
 use system_files::WriteFault;
+use templates::FormatFault;
 use thiserror::Error;
 use xn_kernel::Refusal;
 use xnfs_session::FfsFault;
@@ -87,6 +88,12 @@ pub enum Fault {
     /// The file is no disk, or can't be had.
     #[error("{0}")]
     File(FileFault),
+    /// No fresh disk is made.
+    #[error("no disk is made: {0}")]
+    Format(FormatFault),
+    /// There is no file system of this number.
+    #[error("there is no file system {0}: they are 0 to 31")]
+    NoFileSystem(u8),
     /// The disk can't be mounted.
     #[error("no sound disk: {0}")]
     Image(ImageFault),

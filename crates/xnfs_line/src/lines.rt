@@ -151,7 +151,7 @@ fn is_looking(word: &Word) -> bool {
 fn file_system(number: u8) -> Result<Fs, Fault> {
     match Fs::new(number) {
         Some(fs) => Ok(fs),
-        None => Err(Fault::NoMemory),
+        None => Err(Fault::NoFileSystem(number)),
     }
 }
 

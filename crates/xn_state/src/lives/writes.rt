@@ -1,6 +1,6 @@
 // The writes of blocks.
 
-ghost use Rattle.std.specs.Prelude.{◌≡◌, ◌≢◌, ◌<◌, ◌≤◌, [], false, All, IfOk, IfSome, bytes_eq, length, slice_get, unwrap_or};
+ghost use Rattle.std.specs.Prelude.{◌≡◌, ◌≢◌, ◌<◌, ◌≤◌, [], false, All, IfOk, IfSome, IsTrue, OnOk, bytes_eq, is_some, length, slice_get, unwrap_or};
 ghost use Rattle.std.specs.Option.{option_copied};
 ghost use Rattle.xn_model.specs.Lives.{begun_at, current, drops_of, freed, life_at, settled_at};
 ghost use Rattle.xn_model.specs.Results.{result_map};
@@ -30,7 +30,7 @@ impl Lives {
         if life.facts().is_in_flight() {
             return Err(Refusal::InFlight);
         }
-        let count = self.index.safe_prefix(&self.cache, block);
+        let count = self.index.safe_prefix(&self.cache, block, &life);
         if count == 0 {
             return Err(Refusal::NothingSafe);
         }
@@ -55,6 +55,7 @@ impl Lives {
         other: Option<&[u8; BLOCK_LEN]>,
     ) -> Result<u32, Refusal>
         ensures count { result ≡ settled_place (unwrap_or (option_copied other.entry) (life_bytes (life_at self.now block))) (slice_get self.now block) }
+        ensures alive { OnOk result (IsTrue (is_some (life_at self.now block))) }
         ensures within { IfOk result (λ count. count ≤ life_pending (life_at self.now block)) }
         ensures few { IfOk result (λ count. count ≤ 64) }
     {
@@ -81,13 +82,19 @@ impl Lives {
     /// Ends a write of a block that made its first entries durable: the blocks that they drop are free. Answers how many
     /// these are.
     pub fn settle(&mut self, block: u32, count: u32) -> u32
+        requires alive { IsTrue (is_some (life_at self.old block)) }
         requires within { count ≤ life_pending (life_at self.old block) }
         requires few { count ≤ 64 }
         requires drops { MayFree self.old block (drops_of (first_pending count (life_at self.old block))) }
         ensures lives { self.new ≡ freed (settled_at self.old block count) (drops_of (first_pending count (life_at self.old block))) }
         ensures count { result ≡ length (drops_of (first_pending count (life_at self.old block))) }
     {
-        let taken = self.index.take_out(&self.cache, block, count as usize);
+        let Some(life) = self.cache.live(block) else {
+            unreachable!()
+        };
+        let taken = self
+            .index
+            .take_out(&self.cache, block, &life, count as usize);
         let freed = end_write(&mut self.cache, block, count, taken.has_drops);
         self.index.note_settle(&self.cache, taken);
         freed

@@ -20,8 +20,16 @@ use crate::state::{State, is_within_size};
 use block_cache::{Facts, NewBytes};
 use claims::{are_blocks_distinct, are_distinct, leaves, names, owned_pairs};
 use edit_list::{Edit, EditId, Fs, Undo};
+use std::alloc::Global;
 use store_types::{BLOCK_LEN, DATA_TYPE, Refusal};
 use udf_run::ReadSet;
+
+/// What an edit is made of that only want of memory could still refuse: the chunks that decide what the bytes own that it leaves, where they
+/// are known, and the newest bytes of its block.
+struct Proposed<'a> {
+    reads: Option<ReadSet>,
+    old: &'a [u8; BLOCK_LEN],
+}
 
 impl State {
     /// Whether an entry of this number was given, where one is named.
@@ -287,12 +295,13 @@ impl State {
         self.left_by(block, facts.ty, old, edit)
     }
 
-    /// The chunks that decide what a block owns once it is edited, or the first refusal that applies.
-    fn proposed(&self, fs: Fs, block: u32, edit: &Edit) -> Result<Option<ReadSet>, Refusal>
-        ensures plan { result_map (λ reads. patched (life_bytes (life_at self.now.lives block)) edit.now.patches) result ≡
+    /// An edit that only want of memory could still refuse, or the first refusal that applies.
+    fn proposed(&self, fs: Fs, block: u32, edit: &Edit) -> Result<Proposed<'_>, Refusal>
+        ensures plan { result_map (λ proposed. patched (life_bytes (life_at self.now.lives block)) edit.now.patches) result ≡
             proposed_of (own_types self.now) self.now fs.number block edit.now }
-        ensures reads { IfOk result (λ reads. Decides (own_types self.now) self.now.lives block
-            (patched (life_bytes (life_at self.now.lives block)) edit.now.patches) reads) }
+        ensures reads { IfOk result (λ proposed. Decides (own_types self.now) self.now.lives block
+            (patched (life_bytes (life_at self.now.lives block)) edit.now.patches) proposed.reads) }
+        ensures old { IfOk result (λ proposed. proposed.old.now ≡ life_bytes (life_at self.now.lives block)) }
         ensures rules { IsConsistent (own_types self.now) self.now }
         ensures alive { OnOk result (IsTrue (is_some (life_at self.now.lives block))) }
         ensures room { OnOk result (life_pending (life_at self.now.lives block) < 64) }
@@ -301,24 +310,9 @@ impl State {
         ensures limits { OnOk result (IsTrue (within_limits edit.now)) }
     {
         let life = self.lives.own(fs, block)?;
-        self.edited(fs, block, life.facts(), life.current(), edit)
-    }
-
-    /// What undoes an edit of a block in use.
-    fn undo_of(&self, block: u32, edit: &Edit) -> Result<Undo, Refusal>
-        requires alive { IsTrue (is_some (life_at self.now.lives block)) }
-        requires limits { IsTrue (within_limits edit.now) }
-        ensures ok { IfOk result (λ undo. patched (patched (life_bytes (life_at self.now.lives block)) edit.now.patches) undo ≡
-            life_bytes (life_at self.now.lives block)) }
-        ensures err { IfErr result (λ refusal. refusal ≡ Refusal.NoMemory) }
-    {
-        let Some(old) = self.newest(block) else {
-            unreachable!()
-        };
-        match edit.undo_of(self.alloc, old) {
-            Ok(undo) => Ok(undo),
-            Err(_) => Err(Refusal::NoMemory),
-        }
+        let old = life.current();
+        let reads = self.edited(fs, block, life.facts(), old, edit)?;
+        Ok(Proposed { reads, old })
     }
 
     /// Edits a block of the file system: its patches are written into the newest bytes, and the blocks that it points to
@@ -334,14 +328,26 @@ impl State {
     pub fn propose(&mut self, fs: Fs, block: u32, edit: &Edit) -> Result<EditId, Refusal>
         ensures state { Gives (propose_of (own_types self.old) self.old fs.number block edit.now) self.old self.new result }
     {
-        let reads = self.proposed(fs, block, edit)?;
-        let undo = self.undo_of(block, edit)?;
+        let Proposed { reads, old } = self.proposed(fs, block, edit)?;
+        let undo = undo_of(self.alloc, old, edit)?;
         let claims = Claims {
             adds: edit.adds(),
             drops: edit.drops(),
             after: edit.after(),
         };
         self.accept(fs, block, NewBytes::Patched(edit), reads, undo, claims)
+    }
+}
+
+/// What undoes an edit of a block with these newest bytes.
+fn undo_of(alloc: Global, old: &[u8; BLOCK_LEN], edit: &Edit) -> Result<Undo, Refusal>
+    requires { IsTrue (within_limits edit.now) }
+    ensures ok { IfOk result (λ undo. patched (patched old.now edit.now.patches) undo ≡ old.now) }
+    ensures err { IfErr result (λ refusal. refusal ≡ Refusal.NoMemory) }
+{
+    match edit.undo_of(alloc, old) {
+        Ok(undo) => Ok(undo),
+        Err(_) => Err(Refusal::NoMemory),
     }
 }
 
