@@ -2,9 +2,11 @@
 //! May touch: memory.
 #![tactic(auto)]
 
+mod components;
 mod finding;
 mod names;
 mod steps;
 mod way;
 
+pub use components::{Component, Parts, find_parent, parts};
 pub use finding::find_path;
