@@ -2,7 +2,7 @@
 --     IsParted         a path parts into what stands before its last name, that name, and the slashes behind it
 --     IsComponent      what stands before the name leads to the directory
 --     LacksComponent   why there is none
-use Rattle.std.specs.Prelude.{◌≡◌, ◌≢◌, ◌×◌, ◌⊎◌, ℕ, ◌-◌, ◌==◌, ◌<◌, All, List, ◌++◌, Ok, Err, length, not, slice_index, true}
+use Rattle.std.specs.Prelude.{◌≡◌, ◌≢◌, ◌⊎◌, ℕ, ◌-◌, ◌==◌, ◌<◌, All, List, ◌++◌, Ok, Err, length, not, slice_index, true}
 use Rattle.store_types.specs.declared.refusal.Refusal.TheVariants.{NoMemory}
 use Rattle.treefs_model.specs.declared.fault.Fault.{Fault}
 use Rattle.treefs_model.specs.declared.fault.Fault.TheVariants.{BadName, Kernel, NoEntry}

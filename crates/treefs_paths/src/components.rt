@@ -59,7 +59,7 @@ fn name_start(path: &[u8]) -> usize
 }
 
 /// The last name of a path, what stands before it, and the slashes behind it. A path of slashes alone has none.
-pub fn parts(path: &[u8]) -> Parts<'_>
+pub fn split_path(path: &[u8]) -> Parts<'_>
     ensures { IsParted path.now result.before.now result.name.now result.behind.now }
 {
     let (names, behind) = path.split_at(slashes_start(path));
@@ -83,7 +83,7 @@ pub fn find_parent<'p, S: Store>(
     ensures ok { IfOk result (IsComponent (readable (S.state_of store.now) tree.fs.number) tree.top directory path.now) }
     ensures err { IfErr result (LacksComponent (readable (S.state_of store.now) tree.fs.number) tree.top directory path.now) }
 {
-    let parts = parts(path);
+    let parts = split_path(path);
     if path.is_empty() {
         return Err(Fault::NoEntry);
     }
