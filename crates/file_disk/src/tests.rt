@@ -1,10 +1,13 @@
 // What no clause says: that the bytes are in the file.
+ghost use Rattle.std.specs.Prelude.{◌≡◌, ◌≤◌, ◌<◌, length, IfOk};
+ghost use Rattle.xn_model.specs.Images.{most_blocks};
+ghost use Rattle.file_disk.specs.Opened.{AreOpened};
 
 use crate::lane::FileLane;
 use crate::lanes::lane_of;
 use crate::shared_file::SharedFile;
 use crate::{FileDisk, FileFault, FileImage};
-use disk::Lane;
+use disk::{Lane, Lanes};
 use std::fs::{File, OpenOptions};
 use std::os::unix::fs::FileExt;
 use std::sync::Arc;
@@ -13,210 +16,279 @@ use std::thread::Threads;
 use std::{fs, thread};
 use store_types::BLOCK_LEN;
 
+/// Makes a disk of so many blocks in place of what has the name.
+fn make(rt: &HostRuntime, path: &str, blocks: u32) -> Result<Lanes<FileLane>, FileFault>
+    requires least { 32 ≤ blocks }
+    requires most { blocks ≤ most_blocks }
+    ensures { IfOk result (λ lanes. AreOpened blocks lanes) }
+{
+    let _ = fs::remove_file(rt, path);
+    Ok(FileDisk::create(rt, rt.alloc(), path, blocks)?.into_lanes())
+}
+
+/// Opens a disk.
+fn open(rt: &HostRuntime, path: &str) -> Result<Lanes<FileLane>, FileFault>
+    ensures { IfOk result (λ lanes. 32 ≤ length lanes) }
+{
+    Ok(FileDisk::open(rt, rt.alloc(), path)?.into_lanes())
+}
+
+/// Opens a disk to look at it.
+fn open_to_read(rt: &HostRuntime, path: &str) -> Result<Lanes<FileLane>, FileFault>
+    ensures { IfOk result (λ lanes. 32 ≤ length lanes) }
+{
+    Ok(FileDisk::open_to_read(rt, rt.alloc(), path)?.into_lanes())
+}
+
+/// Opens a file to write it beside its disk.
+fn open_beside(rt: &HostRuntime, path: &str) -> Result<File, Fail> {
+    Ok(OpenOptions::new().write(true).open(rt, path)?)
+}
+
+/// Removes a file that is there.
+fn remove(rt: &HostRuntime, path: &str) -> Result<(), Fail> {
+    fs::remove_file(rt, path)?;
+    Ok(())
+}
+
+/// Takes a lane that is at home.
+fn take(lanes: &mut Lanes<FileLane>, block: u32) -> Result<FileLane, Fail>
+    requires { block < length lanes.old }
+    ensures { length lanes.new ≡ length lanes.old }
+{
+    Ok(lanes.take(block).ok_or("a lane")?)
+}
+
+/// Whether the file takes a block of this byte.
+fn writes(lane: &mut FileLane, byte: u8) -> bool {
+    lane.write(&[byte; BLOCK_LEN]).is_ok()
+}
+
+/// Whether the file is synced.
+fn syncs(lane: &mut FileLane) -> bool {
+    lane.sync().is_ok()
+}
+
+/// What a lane reads.
+fn read(lane: &mut FileLane) -> Option<[u8; BLOCK_LEN]> {
+    let mut bytes = [1; BLOCK_LEN];
+    lane.read(&mut bytes).ok()?;
+    Some(bytes)
+}
+
+/// Whether a lane reads this byte alone.
+fn reads(lane: &mut FileLane, byte: u8) -> bool {
+    match read(lane) {
+        Some(bytes) => bytes == [byte; BLOCK_LEN],
+        None => false,
+    }
+}
+
+/// Whether a disk was not opened, as somebody else has it.
+fn is_in_use(opened: Result<Lanes<FileLane>, FileFault>) -> bool {
+    matches!(opened, Err(FileFault::InUse))
+}
+
+/// Whether a disk was not opened, as it has so many bytes.
+fn has_bad_length(opened: Result<Lanes<FileLane>, FileFault>, length: u64) -> bool {
+    match opened {
+        Err(FileFault::BadLength(found)) => found == length,
+        _ => false,
+    }
+}
+
 #[test]
 fn keeps_what_is_written(rt: HostRuntime) -> Result<(), Fail> {
-    let _ = fs::remove_file(&rt, "kept.disk");
-    let mut lanes = FileDisk::create(&rt, rt.alloc(), "kept.disk", 64)?.into_lanes();
+    let mut lanes = make(&rt, "kept.disk", 64)?;
     assert_eq!(rt; fs::metadata(&rt, "kept.disk")?.len(), 32_768);
-    let mut lane = lanes.take(5).ok_or("a lane")?;
-    lane.write(&[7; BLOCK_LEN])?;
-    lane.sync()?;
+    let mut lane = take(&mut lanes, 5)?;
+    assert!(rt; writes(&mut lane, 7));
+    assert!(rt; syncs(&mut lane));
     assert!(rt; lanes.give(lane).is_ok());
     drop(lanes);
-    let mut lanes = FileDisk::open(&rt, rt.alloc(), "kept.disk")?.into_lanes();
+    let mut lanes = open(&rt, "kept.disk")?;
     assert_eq!(rt; lanes.blocks(), 64);
-    let mut bytes = [1; BLOCK_LEN];
-    lanes.take(5).ok_or("a lane")?.read(&mut bytes)?;
-    assert_eq!(rt; bytes, [7; BLOCK_LEN]);
-    lanes.take(6).ok_or("a lane")?.read(&mut bytes)?;
-    assert_eq!(rt; bytes, [0; BLOCK_LEN]);
-    fs::remove_file(&rt, "kept.disk")?;
+    assert!(rt; reads(&mut take(&mut lanes, 5)?, 7));
+    assert!(rt; reads(&mut take(&mut lanes, 6)?, 0));
+    remove(&rt, "kept.disk")
+}
+
+/// Makes a disk of two pieces of 2,048 blocks, and a part of one.
+fn write_long(rt: &HostRuntime, path: &str) -> Result<(), FileFault> {
+    FileDisk::write_fresh(rt, rt.alloc(), path, &[5; 1024], 4_099)
+}
+
+/// Writes two bytes beside it.
+fn change_long(rt: &HostRuntime, path: &str) -> Result<(), Fail> {
+    let other = open_beside(rt, path)?;
+    other.write_all_at(b"x", 512 * 2_048)?;
+    other.write_all_at(b"y", 512 * 4_099 - 1)?;
     Ok(())
+}
+
+/// Whether an image has this byte there.
+fn has(image: &FileImage, at: usize, byte: u8) -> bool {
+    image.bytes().get(at) == Some(&byte)
 }
 
 #[test]
 fn many_blocks_are_read_in_their_places(rt: HostRuntime) -> Result<(), Fail> {
     let _ = fs::remove_file(&rt, "fresh.disk");
-    let head = [5; 1024];
-    // Two pieces of 2,048 blocks, and a part of one.
-    FileDisk::write_fresh(&rt, rt.alloc(), "fresh.disk", &head, 4_099)?;
-    let again = FileDisk::write_fresh(&rt, rt.alloc(), "fresh.disk", &head, 4_099);
-    assert!(rt; matches!(again, Err(FileFault::AlreadyThere)));
+    write_long(&rt, "fresh.disk")?;
+    assert!(rt; matches!(write_long(&rt, "fresh.disk"), Err(FileFault::AlreadyThere)));
     assert_eq!(rt; fs::metadata(&rt, "fresh.disk")?.len(), 512 * 4_099);
-    let other = OpenOptions::new().write(true).open(&rt, "fresh.disk")?;
-    other.write_all_at(b"x", 512 * 2_048)?;
-    other.write_all_at(b"y", 512 * 4_099 - 1)?;
+    change_long(&rt, "fresh.disk")?;
     let image = FileImage::open(&rt, rt.alloc(), "fresh.disk")?;
-    assert!(rt; matches!(image.bytes().get(1_023), Some(5)));
-    assert!(rt; matches!(image.bytes().get(1_024), Some(0)));
-    assert!(rt; matches!(image.bytes().get(512 * 2_048), Some(b'x')));
+    assert!(rt; has(&image, 1_023, 5));
+    assert!(rt; has(&image, 1_024, 0));
+    assert!(rt; has(&image, 512 * 2_048, b'x'));
     let mut lanes = image.into_disk(rt.alloc())?.into_lanes();
     assert_eq!(rt; lanes.blocks(), 4_099);
-    let mut bytes = [1; BLOCK_LEN];
-    lanes.take(4_098).ok_or("a lane")?.read(&mut bytes)?;
-    assert_eq!(rt; bytes[511], b'y');
-    lanes.take(2_048).ok_or("a lane")?.read(&mut bytes)?;
-    assert_eq!(rt; bytes[0], b'x');
-    lanes.take(4_097).ok_or("a lane")?.read(&mut bytes)?;
-    assert_eq!(rt; bytes, [0; BLOCK_LEN]);
-    fs::remove_file(&rt, "fresh.disk")?;
-    Ok(())
+    let last = read(&mut take(&mut lanes, 4_098)?).ok_or("bytes")?;
+    assert_eq!(rt; last[511], b'y');
+    let middle = read(&mut take(&mut lanes, 2_048)?).ok_or("bytes")?;
+    assert_eq!(rt; middle[0], b'x');
+    assert!(rt; reads(&mut take(&mut lanes, 4_097)?, 0));
+    remove(&rt, "fresh.disk")
 }
 
 #[test]
 fn what_others_write_is_a_fault(rt: HostRuntime) -> Result<(), Fail> {
-    let _ = fs::remove_file(&rt, "changed.disk");
-    let mut lanes = FileDisk::create(&rt, rt.alloc(), "changed.disk", 32)?.into_lanes();
-    let mut lane = lanes.take(31).ok_or("a lane")?;
-    let other = OpenOptions::new().write(true).open(&rt, "changed.disk")?;
+    let mut lane = take(&mut make(&rt, "changed.disk", 32)?, 31)?;
+    let other = open_beside(&rt, "changed.disk")?;
     other.write_all_at(b"x", 512 * 31 + 500)?;
-    let mut bytes = [0; BLOCK_LEN];
-    assert!(rt; lane.read(&mut bytes).is_err());
+    assert!(rt; read(&mut lane).is_none());
     assert_eq!(rt; lane.faults(), 1);
-    lane.write(&[9; BLOCK_LEN])?;
-    lane.read(&mut bytes)?;
-    assert_eq!(rt; bytes, [9; BLOCK_LEN]);
+    assert!(rt; writes(&mut lane, 9));
+    assert!(rt; reads(&mut lane, 9));
     other.set_len(512)?;
-    assert!(rt; lane.read(&mut bytes).is_err());
+    assert!(rt; read(&mut lane).is_none());
     assert_eq!(rt; lane.faults(), 2);
-    fs::remove_file(&rt, "changed.disk")?;
-    Ok(())
+    remove(&rt, "changed.disk")
 }
 
 #[test]
 fn a_second_opener_is_refused(rt: HostRuntime) -> Result<(), Fail> {
-    let _ = fs::remove_file(&rt, "locked.disk");
-    let lanes = FileDisk::create(&rt, rt.alloc(), "locked.disk", 32)?.into_lanes();
-    let second = FileDisk::open(&rt, rt.alloc(), "locked.disk");
-    assert!(rt; matches!(second, Err(FileFault::InUse)));
-    let looker = FileDisk::open_to_read(&rt, rt.alloc(), "locked.disk");
-    assert!(rt; matches!(looker, Err(FileFault::InUse)));
+    let lanes = make(&rt, "locked.disk", 32)?;
+    assert!(rt; is_in_use(open(&rt, "locked.disk")));
+    assert!(rt; is_in_use(open_to_read(&rt, "locked.disk")));
     drop(lanes);
-    let third = FileDisk::open(&rt, rt.alloc(), "locked.disk");
-    assert!(rt; third.is_ok());
-    drop(third);
-    let mut lanes = FileDisk::open_to_read(&rt, rt.alloc(), "locked.disk")?.into_lanes();
-    let fourth = FileDisk::open_to_read(&rt, rt.alloc(), "locked.disk");
+    assert!(rt; open(&rt, "locked.disk").is_ok());
+    let mut lanes = open_to_read(&rt, "locked.disk")?;
+    let fourth = open_to_read(&rt, "locked.disk");
     assert!(rt; fourth.is_ok());
-    let fifth = FileDisk::open(&rt, rt.alloc(), "locked.disk");
-    assert!(rt; matches!(fifth, Err(FileFault::InUse)));
-    let mut lane = lanes.take(3).ok_or("a lane")?;
-    lane.sync()?;
-    assert!(rt; lane.write(&[1; BLOCK_LEN]).is_err());
-    lane.read(&mut [0; BLOCK_LEN])?;
-    fs::remove_file(&rt, "locked.disk")?;
-    Ok(())
+    assert!(rt; is_in_use(open(&rt, "locked.disk")));
+    let mut lane = take(&mut lanes, 3)?;
+    assert!(rt; syncs(&mut lane));
+    assert!(rt; !writes(&mut lane, 1));
+    assert!(rt; read(&mut lane).is_some());
+    remove(&rt, "locked.disk")
 }
 
 #[test]
 fn refuses_what_is_no_disk(rt: HostRuntime) -> Result<(), Fail> {
     let _ = fs::remove_file(&rt, "odd.disk");
-    let missing = FileDisk::open(&rt, rt.alloc(), "odd.disk");
-    assert!(rt; matches!(missing, Err(FileFault::NotThere)));
+    assert!(rt; matches!(open(&rt, "odd.disk"), Err(FileFault::NotThere)));
     let file = File::create(&rt, "odd.disk")?;
     let taken = FileDisk::create(&rt, rt.alloc(), "odd.disk", 32);
     assert!(rt; matches!(taken, Err(FileFault::AlreadyThere)));
     file.set_len(512 * 32 + 1)?;
-    let odd = FileDisk::open(&rt, rt.alloc(), "odd.disk");
-    assert!(rt; matches!(odd, Err(FileFault::BadLength(16_385))));
+    assert!(rt; has_bad_length(open(&rt, "odd.disk"), 16_385));
     file.set_len(512 * 31)?;
-    let short = FileDisk::open(&rt, rt.alloc(), "odd.disk");
-    assert!(rt; matches!(short, Err(FileFault::BadLength(15_872))));
+    assert!(rt; has_bad_length(open(&rt, "odd.disk"), 15_872));
     file.set_len(512 * 1_048_577)?;
-    let long = FileDisk::open(&rt, rt.alloc(), "odd.disk");
-    assert!(rt; matches!(long, Err(FileFault::BadLength(536_871_424))));
-    let folder = FileDisk::open(&rt, rt.alloc(), ".");
-    assert!(rt; matches!(folder, Err(FileFault::System(_))));
-    fs::remove_file(&rt, "odd.disk")?;
-    Ok(())
+    assert!(rt; has_bad_length(open(&rt, "odd.disk"), 536_871_424));
+    assert!(rt; matches!(open(&rt, "."), Err(FileFault::System(_))));
+    remove(&rt, "odd.disk")
 }
 
-/// Through a handle that may not write.
-#[test]
-fn a_write_that_fails_is_settled(rt: HostRuntime) -> Result<(), Fail> {
-    let _ = fs::remove_file(&rt, "failing.disk");
-    drop(FileDisk::create(&rt, rt.alloc(), "failing.disk", 32)?);
-    let (file, opened) = SharedFile::new(File::open(&rt, "failing.disk")?)?;
+/// A lane through a handle that may not write.
+fn unwritten_lane(rt: &HostRuntime, path: &str) -> Result<FileLane, Fail> {
+    let (file, opened) = SharedFile::new(File::open(rt, path)?)?;
     let file = Arc::new(rt.alloc(), file).ok().ok_or("memory")?;
     let image = file.find_image(rt.alloc(), 32)?;
-    let mut lane = lane_of(rt.alloc(), &file, &opened, &image.block(3))?;
-    let mut bytes = [1; BLOCK_LEN];
-    assert!(rt; lane.write(&[8; BLOCK_LEN]).is_err());
-    lane.read(&mut bytes)?;
-    assert_eq!(rt; bytes, [0; BLOCK_LEN]);
-    lane.sync()?;
-    // It can't be read back either, until it is whole again.
-    let other = OpenOptions::new().write(true).open(&rt, "failing.disk")?;
-    other.set_len(0)?;
-    assert!(rt; lane.write(&[8; BLOCK_LEN]).is_err());
-    assert!(rt; lane.sync().is_err());
-    assert!(rt; lane.read(&mut bytes).is_err());
-    assert_eq!(rt; lane.faults(), 4);
-    other.set_len(16_384)?;
-    lane.sync()?;
-    // The new bytes are there after all.
-    other.write_all_at(&[8; BLOCK_LEN], 1536)?;
-    assert!(rt; lane.write(&[8; BLOCK_LEN]).is_err());
-    lane.read(&mut bytes)?;
-    assert_eq!(rt; bytes, [8; BLOCK_LEN]);
-    fs::remove_file(&rt, "failing.disk")?;
-    Ok(())
+    Ok(lane_of(rt.alloc(), &file, &opened, &image.block(3))?)
 }
 
-/// Over a device that takes each write and forgets it, and that can't be synced.
 #[test]
-fn a_failed_sync_is_for_good(rt: HostRuntime) -> Result<(), Fail> {
-    let _ = fs::remove_file(&rt, "syncs.disk");
-    let (regular, opened) = SharedFile::new(File::create_new(&rt, "syncs.disk")?)?;
+fn a_write_that_fails_is_settled(rt: HostRuntime) -> Result<(), Fail> {
+    drop(make(&rt, "failing.disk", 32)?);
+    let mut lane = unwritten_lane(&rt, "failing.disk")?;
+    assert!(rt; !writes(&mut lane, 8));
+    assert!(rt; reads(&mut lane, 0));
+    assert!(rt; syncs(&mut lane));
+    // It can't be read back either, until it is whole again.
+    let other = open_beside(&rt, "failing.disk")?;
+    other.set_len(0)?;
+    assert!(rt; !writes(&mut lane, 8));
+    assert!(rt; !syncs(&mut lane));
+    assert!(rt; read(&mut lane).is_none());
+    assert_eq!(rt; lane.faults(), 4);
+    other.set_len(16_384)?;
+    assert!(rt; syncs(&mut lane));
+    // The new bytes are there after all.
+    other.write_all_at(&[8; BLOCK_LEN], 1536)?;
+    assert!(rt; !writes(&mut lane, 8));
+    assert!(rt; reads(&mut lane, 8));
+    remove(&rt, "failing.disk")
+}
+
+/// Lanes over a device that takes each write and forgets it, and that can't be synced.
+fn forgotten_lanes(rt: &HostRuntime) -> Result<(FileLane, FileLane, FileLane), Fail> {
+    let _ = fs::remove_file(rt, "syncs.disk");
+    let (regular, opened) = SharedFile::new(File::create_new(rt, "syncs.disk")?)?;
     drop(regular);
-    fs::remove_file(&rt, "syncs.disk")?;
+    remove(rt, "syncs.disk")?;
     let device = OpenOptions::new()
         .read(true)
         .write(true)
-        .open(&rt, "/dev/zero")?;
+        .open(rt, "/dev/zero")?;
     let file = Arc::new(rt.alloc(), SharedFile::never_synced(device))
         .ok()
         .ok_or("memory")?;
     let image = file.find_image(rt.alloc(), 4)?;
-    let mut one = lane_of(rt.alloc(), &file, &opened, &image.block(1))?;
-    let mut two = lane_of(rt.alloc(), &file, &opened, &image.block(2))?;
-    let mut three = lane_of(rt.alloc(), &file, &opened, &image.block(3))?;
-    one.write(&[0; BLOCK_LEN])?;
-    assert!(rt; one.sync().is_err());
-    assert!(rt; one.sync().is_err());
+    Ok((
+        lane_of(rt.alloc(), &file, &opened, &image.block(1))?,
+        lane_of(rt.alloc(), &file, &opened, &image.block(2))?,
+        lane_of(rt.alloc(), &file, &opened, &image.block(3))?,
+    ))
+}
+
+#[test]
+fn a_failed_sync_is_for_good(rt: HostRuntime) -> Result<(), Fail> {
+    let (mut one, mut two, mut three) = forgotten_lanes(&rt)?;
+    assert!(rt; writes(&mut one, 0));
+    assert!(rt; !syncs(&mut one));
+    assert!(rt; !syncs(&mut one));
     assert_eq!(rt; one.faults(), 2);
-    two.sync()?;
-    two.write(&[0; BLOCK_LEN])?;
-    assert!(rt; two.sync().is_err());
+    assert!(rt; syncs(&mut two));
+    assert!(rt; writes(&mut two, 0));
+    assert!(rt; !syncs(&mut two));
     // What it forgot is a fault, too.
-    three.write(&[1; BLOCK_LEN])?;
-    assert!(rt; three.read(&mut [0; BLOCK_LEN]).is_err());
+    assert!(rt; writes(&mut three, 1));
+    assert!(rt; read(&mut three).is_none());
     Ok(())
 }
 
 /// Writes and syncs a block many times.
 fn turn(lane: &mut FileLane) {
     for byte in 0..100 {
-        let _ = lane.write(&[byte; BLOCK_LEN]);
-        let _ = lane.sync();
+        let _ = writes(lane, byte);
+        let _ = syncs(lane);
     }
 }
 
 #[test]
 fn many_threads_sync(rt: HostRuntime) -> Result<(), Fail> {
-    let _ = fs::remove_file(&rt, "threads.disk");
-    let mut lanes = FileDisk::create(&rt, rt.alloc(), "threads.disk", 32)?.into_lanes();
+    let mut lanes = make(&rt, "threads.disk", 32)?;
     let mut taken = Vec::new(rt.alloc());
     for block in 0..8 {
-        taken.push(lanes.take(block).ok_or("a lane")?)?;
+        taken.push(take(&mut lanes, block)?)?;
     }
     thread::for_each_mut(&rt, &mut taken, 8, &|_, lane| turn(lane));
-    let mut bytes = [0; BLOCK_LEN];
     for lane in &mut taken {
         assert_eq!(rt; lane.faults(), 0);
-        lane.read(&mut bytes)?;
-        assert_eq!(rt; bytes, [99; BLOCK_LEN]);
+        assert!(rt; reads(lane, 99));
     }
-    fs::remove_file(&rt, "threads.disk")?;
-    Ok(())
+    remove(&rt, "threads.disk")
 }

@@ -24,6 +24,3 @@ pub use source::Source;
 pub use system::{Found, System};
 pub use taking::Links;
 pub use writing::write_by;
-
-#[cfg(test)]
-mod tests;

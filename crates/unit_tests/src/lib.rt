@@ -17,6 +17,8 @@ mod mounts;
 #[cfg(test)]
 mod playing;
 #[cfg(test)]
+mod replaced_files;
+#[cfg(test)]
 mod roles;
 #[cfg(test)]
 mod streams;

@@ -1,8 +1,8 @@
 // Each call of a system fails in turn. No clause says what a system does, so this one, in memory, shows what is left of the files.
 
-use crate::{Found, Links, Source, System, WriteFault, write_by};
 use std::io::ErrorKind;
 use std::test::Fail;
+use system_files::{Found, Links, Source, System, WriteFault, write_by};
 
 /// A file of two names: its own, which is locked and has old bytes, and that of the new file beside it.
 #[derive(Drop)]
