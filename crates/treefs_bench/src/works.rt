@@ -117,7 +117,7 @@ fn write<S: FlushStore + Drop>(
 ) -> Result<u64, Fault> {
     let mut bytes = [0u8; 4096];
     for number in 0..rounds {
-        bytes[0] = number as u8;
+        bytes[0] = (number % 256) as u8;
         let target = Target::Numbered(2 + number % NAMES, 0);
         session.write_all(alloc, &[], target, &bytes)?;
         if number % 16 == 15 {

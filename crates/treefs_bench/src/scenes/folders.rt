@@ -20,6 +20,11 @@ fn size_of(number: u32) -> usize {
     (50 + number.wrapping_mul(1_237) % 7_951) as usize
 }
 
+/// The first bytes, so many where there are.
+fn front(bytes: &[u8], count: usize) -> &[u8] {
+    &bytes[..count.min(bytes.len())]
+}
+
 /// Puts so many files.
 pub fn put_files<S: FlushStore + Drop>(
     alloc: Global,
@@ -28,9 +33,14 @@ pub fn put_files<S: FlushStore + Drop>(
     count: u32,
 ) -> Result<(), Fault> {
     for number in 0..count {
-        let bytes = [number as u8; 8_000];
-        let size = size_of(number).min(bytes.len());
-        let _number = put(alloc, session, directory, &name_of(number), &bytes[..size])?;
+        let bytes = [(number % 256) as u8; 8_000];
+        let _number = put(
+            alloc,
+            session,
+            directory,
+            &name_of(number),
+            front(&bytes, size_of(number)),
+        )?;
     }
     Ok(())
 }
