@@ -10,7 +10,7 @@ use crate::act::Act;
 use crate::times::Times;
 use edit_list::{Edit, Patch};
 use std::alloc::{AllocError, Global};
-use treefs_format::records::append_record;
+use treefs_format::records::{RECORD_HEAD, append_record};
 use treefs_format::{Change, buckets, inodes};
 
 /// Patches of a block that change nothing of what it points to.
@@ -92,7 +92,7 @@ pub fn make_record(
     requires { length name.now ≤ 255 }
     ensures { IfOk result (λ act. act ≡ record_act block offset (record { number = number; name = name.now }) behind) }
 {
-    let mut bytes = Vec::new(alloc);
+    let mut bytes = Vec::with_capacity(alloc, RECORD_HEAD + name.len())?;
     append_record(&mut bytes, number, name)?;
     one_patch(alloc, block, Patch { offset, bytes }, behind)
 }
@@ -221,7 +221,7 @@ pub fn attach(
 fn words(alloc: Global, blocks: &[u32]) -> Result<Vec<u8>, AllocError>
     ensures { IfOk result (λ bytes. bytes.items ≡ word_bytes blocks.now) }
 {
-    let mut bytes = Vec::new(alloc);
+    let mut bytes = Vec::with_capacity(alloc, 4 * blocks.len())?;
     for block in blocks {
         bytes.extend_from_slice(&block.to_le_bytes())?;
     }
@@ -232,7 +232,7 @@ fn words(alloc: Global, blocks: &[u32]) -> Result<Vec<u8>, AllocError>
 fn with_type(alloc: Global, blocks: &[u32], ty: u32) -> Result<Vec<(u32, u32)>, AllocError>
     ensures { IfOk result (λ adds. adds.items ≡ map (λ b. (b, ty)) blocks.now) }
 {
-    let mut adds = Vec::new(alloc);
+    let mut adds = Vec::with_capacity(alloc, blocks.len())?;
     for block in blocks {
         adds.push((*block, ty))?;
     }

@@ -1,6 +1,6 @@
 // Buckets of names: 384 or 512 bytes that begin with records.
 
-ghost use Rattle.std.specs.Prelude.{◌≡◌, ◌+◌, ◌≤◌, length, IfOk, option_map};
+ghost use Rattle.std.specs.Prelude.{◌≡◌, ◌+◌, ◌≤◌, bytes_eq, length, IfOk, option_map};
 ghost use Rattle.std.specs.Int.{w32, to_le_bytes};
 ghost use Rattle.treefs_format.specs.Buckets.{dead_record, live_entries, live_record, other_record, rewritten, room_behind, room_without};
 ghost use Rattle.treefs_format.specs.Left.{record_of};
@@ -16,11 +16,36 @@ pub fn end(bucket: &[u8]) -> usize
     ensures end { result ≡ end_of bucket.now }
     ensures within { result ≤ length bucket.now }
 {
-    let mut end = 0;
+    record_lengths(bucket).all
+}
+
+/// How many bytes the records of a bucket have.
+#[derive(Clone, Copy, Debug)]
+pub struct RecordLengths {
+    /// All of them, which is the place behind the last one.
+    pub all: usize,
+    /// The live ones.
+    pub live: usize,
+}
+
+/// How many bytes the records of a bucket have, and the live ones of them.
+pub fn record_lengths(bucket: &[u8]) -> RecordLengths
+    requires { length bucket.now ≤ 512 }
+    ensures all { result.all ≡ end_of bucket.now }
+    ensures all_within { result.all ≤ length bucket.now }
+    ensures live { result.live ≡ total_length (live_entries bucket.now) }
+    ensures live_within { result.live ≤ length bucket.now }
+{
+    let mut all = 0;
+    let mut live = 0;
     for record in Records::new(bucket) {
-        end += RECORD_HEAD + record.name.len();
+        let length = RECORD_HEAD + record.name.len();
+        all += length;
+        if record.number != 0 {
+            live += length;
+        }
     }
-    end
+    RecordLengths { all, live }
 }
 
 /// How many bytes are left behind the records of a bucket.
@@ -36,22 +61,21 @@ pub fn room_without(bucket: &[u8]) -> usize
     requires { length bucket.now ≤ 512 }
     ensures { result ≡ room_without bucket.now }
 {
-    bucket.len() - live_length(bucket)
+    bucket.len() - record_lengths(bucket).live
 }
 
-/// How many bytes the live records of a bucket have.
-fn live_length(bucket: &[u8]) -> usize
-    requires { length bucket.now ≤ 512 }
-    ensures length { result ≡ total_length (live_entries bucket.now) }
-    ensures within { result ≤ length bucket.now }
+/// Whether two names are the same. Their last bytes are compared first: names of one directory often begin alike.
+fn are_same(one: &[u8], other: &[u8]) -> bool
+    ensures { result ≡ bytes_eq one.now other.now }
 {
-    let mut total = 0;
-    for record in Records::new(bucket) {
-        if record.number != 0 {
-            total += RECORD_HEAD + record.name.len();
-        }
+    let length = one.len();
+    if length != other.len() {
+        return false;
     }
-    total
+    if length > 0 && one[length - 1] != other[length - 1] {
+        return false;
+    }
+    one == other
 }
 
 /// The first live record of a name.
@@ -59,7 +83,7 @@ pub fn live_record<'a>(bucket: &'a [u8], name: &[u8]) -> Option<Record<'a>>
     requires { length bucket.now ≤ 512 }
     ensures { option_map record_of result ≡ live_record bucket.now name.now }
 {
-    Records::new(bucket).find(|record| record.number != 0 && record.name == name)
+    Records::new(bucket).find(|record| record.number != 0 && are_same(record.name, name))
 }
 
 /// The first dead record of a name.
@@ -67,7 +91,7 @@ pub fn dead_record<'a>(bucket: &'a [u8], name: &[u8]) -> Option<Record<'a>>
     requires { length bucket.now ≤ 512 }
     ensures { option_map record_of result ≡ dead_record bucket.now name.now }
 {
-    Records::new(bucket).find(|record| record.number == 0 && record.name == name)
+    Records::new(bucket).find(|record| record.number == 0 && are_same(record.name, name))
 }
 
 /// The first record with a number but for the one at a place.
@@ -108,7 +132,7 @@ pub fn make_record(
     requires within { offset + 5 + length name.now ≤ 512 }
     ensures { IfOk result (λ patch. patch ≡ record { offset = offset; bytes = entry_bytes (record { number = number; name = name.now }) }) }
 {
-    let mut bytes = Vec::new(alloc);
+    let mut bytes = Vec::with_capacity(alloc, RECORD_HEAD + name.len())?;
     append_record(&mut bytes, number, name)?;
     Ok(Patch {
         offset: offset as u16,

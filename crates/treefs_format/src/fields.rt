@@ -131,7 +131,7 @@ impl Change {
         requires adjoining { IsTrue (are_adjoining changes.now) }
         ensures { IfOk result (λ patch. patch ≡ changes_patch changes.now) }
     {
-        let mut bytes = Vec::new(alloc);
+        let mut bytes = Vec::with_capacity(alloc, 8 * changes.len())?;
         for change in changes {
             change.append(&mut bytes)?;
         }

@@ -11,3 +11,5 @@ pub mod SoughtBuckets
 pub mod FreeNumbers
 pub mod ReadParts
 pub mod FirstBlocks
+pub mod TopPointers
+pub mod ZeroPointers

@@ -3,8 +3,9 @@
 --     Begins                    such a block, of an inode, is there: a leaf itself where it is no level above
 --     SomeBegins, NoneBegins    some does at or past a leaf; none from one on, up to another
 --     bytes_past                the bytes from a size on that stand together with the first of them
+--     pointers_past             the pointers of an inode to the leaves from one on, and to its trees
 --     IsTrimmed                 past the size of a file or a symbolic link no block is there, nor a byte that is not 0; a directory is trimmed
-use Rattle.std.specs.Prelude.{◌≡◌, ◌≢◌, ℕ, ◌<◌, ◌≤◌, ◌/◌, ◌%◌, ◌==◌, nat_le, zero, suc, Bool, true, ◌&&◌, List, drop, IsTrue, ⊤}
+use Rattle.std.specs.Prelude.{◌≡◌, ◌≢◌, ℕ, ◌+◌, ◌-◌, ◌*◌, ◌<◌, ◌≤◌, ◌/◌, ◌%◌, ◌==◌, min, nat_le, zero, suc, Bool, true, ◌&&◌, List, drop, take, IsTrue, ⊤}
 use Rattle.xn_model.specs.Lists.{blank}
 use Rattle.treefs_format.specs.Leaves.{greatest_size, leaves_kept}
 use Rattle.treefs_format.specs.Paths.{height_of, leaf_count, place_in_tree, steps}
@@ -35,6 +36,10 @@ NoneBegins content inode from to = (leaf levels : ℕ) → from ≤ leaf → lea
 
 abbrev pub bytes_past : (ℕ → List ℕ) → ℕ → ℕ → List ℕ
 bytes_past content inode size = bytes_from content inode size (part_left size)
+
+-- the pointers of an inode from that to a leaf on: those to leaves at or past it, and those to the trees
+abbrev pub pointers_past : List ℕ → ℕ → List ℕ
+pointers_past bytes from = take (128 - (48 + 4 * min from 16)) (drop (48 + 4 * min from 16) bytes)
 
 pub record IsCut (content : ℕ → List ℕ) (inode size : ℕ) : Type 0 where
   pub blocks : NoneBegins content inode (leaves_kept size) leaf_count

@@ -3,15 +3,18 @@
 ghost use Rattle.std.specs.Prelude.{◌≡◌, ◌+◌, ◌-◌, ◌<◌, ◌≤◌, All, length};
 ghost use Rattle.treefs_format.specs.Paths.{last_beside, leaf_count, steps};
 ghost use Rattle.treefs_lookup.specs.Readable.{readable};
-ghost use Rattle.treefs_lookup.specs.Walks.{end_of, holder_steps, path_blocks, pointer_offset, reach};
-ghost use Rattle.treefs_model.specs.Reading.{leaf_block};
+ghost use Rattle.treefs_lookup.specs.Walks.{end_of, holder_steps, path_blocks, pointer_offset, reach, stepped};
+ghost use Rattle.treefs_model.specs.Reading.{leaf_block, pointed};
 
 use crate::blocks::pointer_at;
 use arrayvec::ArrayVec;
 use edit_list::Fs;
 use treefs_format::law::paths_are_leaves;
-use treefs_format::paths::{last_beside, path};
+use treefs_format::paths::{height, last_beside, path};
 use xn_state::Store;
+
+/// How many pointers to leaves stand in an inode.
+const OWN_LEAVES: u32 = 16;
 
 /// How far a path of pointers leads.
 #[derive(Clone, Copy, Debug, PartialEq, Eq)]
@@ -84,9 +87,45 @@ pub fn find_leaf<S: Store>(store: &S, fs: Fs, inode: u32, leaf: u32) -> Reach
     requires { leaf < leaf_count }
     ensures { result ≡ reach (readable (S.state_of store.now) fs.number) inode (steps leaf) }
 {
+    if leaf < OWN_LEAVES {
+        return step(store, fs, inode, (48 + 4 * leaf) as u16);
+    }
+    find_in_tree(store, fs, inode, leaf)
+}
+
+/// How far one pointer of a block leads.
+fn step<S: Store>(store: &S, fs: Fs, block: u32, offset: u16) -> Reach
+    requires { offset + 4 ≤ 512 }
+    ensures { result ≡ stepped block (pointed (readable (S.state_of store.now) fs.number) block offset) }
+{
+    let next = pointer_at(store, fs, block, offset);
+    if next == 0 {
+        Reach { block, missing: 1 }
+    } else {
+        Reach {
+            block: next,
+            missing: 0,
+        }
+    }
+}
+
+/// How far the path to a leaf leads that stands in a tree of nodes. Where the tree is missing, no other pointer of the path is looked for.
+fn find_in_tree<S: Store>(store: &S, fs: Fs, inode: u32, leaf: u32) -> Reach
+    requires there { leaf < leaf_count }
+    requires tree { 16 ≤ leaf }
+    ensures { result ≡ reach (readable (S.state_of store.now) fs.number) inode (steps leaf) }
+{
+    let height = height(leaf);
+    let root = pointer_at(store, fs, inode, (108 + 4 * height) as u16);
+    if root == 0 {
+        return Reach {
+            block: inode,
+            missing: height as usize + 1,
+        };
+    }
     paths_are_leaves();
     let offsets = path(leaf);
-    walk(store, fs, inode, offsets.as_slice())
+    walk(store, fs, root, &offsets.as_slice()[..height as usize])
 }
 
 /// How far the path to the block with the pointer to a leaf leads, from the block of its inode. Where nothing is missing, that block is the
@@ -125,5 +164,8 @@ pub fn leaf_block<S: Store>(store: &S, fs: Fs, inode: u32, leaf: u32) -> u32
     requires { leaf < leaf_count }
     ensures { result ≡ leaf_block (readable (S.state_of store.now) fs.number) inode leaf }
 {
-    find_leaf(store, fs, inode, leaf).end()
+    if leaf < OWN_LEAVES {
+        return pointer_at(store, fs, inode, (48 + 4 * leaf) as u16);
+    }
+    find_in_tree(store, fs, inode, leaf).end()
 }

@@ -1,6 +1,8 @@
 // Where new names go.
 
 ghost use Rattle.std.specs.Prelude.{◌≡◌, ◌+◌, ◌≤◌, length};
+ghost use Rattle.treefs_format.specs.Buckets.{live_entries};
+ghost use Rattle.treefs_format.specs.Records.{end_of, total_length};
 ghost use Rattle.treefs_lookup.specs.Names.{dead_place, fits_behind, fits_without, free_place, place_of, room_in};
 ghost use Rattle.treefs_lookup.specs.Readable.{readable};
 ghost use Rattle.xn_model.specs.PendingIn.{newest_entry_of};
@@ -8,7 +10,7 @@ ghost use Rattle.xn_model.specs.PendingIn.{newest_entry_of};
 use crate::bucket::Bucket;
 use crate::buckets::read_candidate;
 use edit_list::Fs;
-use treefs_format::buckets::{dead_record, end, room_behind, room_without};
+use treefs_format::buckets::{RecordLengths, dead_record, record_lengths};
 use treefs_format::law::records_stand_in_buckets;
 use treefs_format::records::RECORD_HEAD;
 use treefs_format::{LEVELS, name_hash};
@@ -41,15 +43,25 @@ pub enum NamePlace {
     },
 }
 
-/// Whether a bucket would have room for a new name, were it without its dead records.
-fn fits_without(bucket: &Bucket, name: &[u8]) -> bool
+/// Whether a bucket with records of these lengths would have room for a new name, were it without its dead ones.
+fn fits_without(bucket: &Bucket, lengths: RecordLengths, name: &[u8]) -> bool
+    requires live { lengths.live ≡ total_length (live_entries bucket.now.bytes.now) }
     ensures { result ≡ fits_without bucket.now.bytes.now name.now }
 {
-    RECORD_HEAD + name.len() <= room_without(bucket.bytes)
+    RECORD_HEAD + name.len() <= bucket.bytes.len().saturating_sub(lengths.live)
 }
 
-/// The place for a new name in a bucket that is there.
-fn find_room<S: Store>(store: &S, bucket: &Bucket, name: &[u8]) -> Option<NamePlace>
+/// The place for a new name in a bucket that is there, with records of these lengths.
+fn find_room<S: Store>(
+    store: &S,
+    bucket: &Bucket,
+    lengths: RecordLengths,
+    name: &[u8],
+) -> Option<NamePlace>
+    requires all { lengths.all ≡ end_of bucket.now.bytes.now }
+    requires all_within { lengths.all ≤ length bucket.now.bytes.now }
+    requires live { lengths.live ≡ total_length (live_entries bucket.now.bytes.now) }
+    requires live_within { lengths.live ≤ length bucket.now.bytes.now }
     ensures { result ≡ room_in bucket.now.bytes.now bucket.now.block bucket.now.start (newest_entry_of (S.state_of store.now) bucket.now.block) name.now }
 {
     let Bucket {
@@ -58,17 +70,17 @@ fn find_room<S: Store>(store: &S, bucket: &Bucket, name: &[u8]) -> Option<NamePl
         bytes,
         ..
     } = *bucket;
-    if RECORD_HEAD + name.len() <= room_behind(bytes) {
+    if RECORD_HEAD + name.len() <= bytes.len() - lengths.all {
         return Some(NamePlace::Behind {
             block,
-            offset: start + end(bytes),
+            offset: start + lengths.all,
         });
     }
-    if fits_without(bucket, name) && store.newest_entry(block).is_none() {
+    if fits_without(bucket, lengths, name) && store.newest_entry(block).is_none() {
         return Some(NamePlace::Rewritten {
             block,
             start,
-            offset: start + (bytes.len() - room_without(bytes)),
+            offset: start + lengths.live,
         });
     }
     None
@@ -109,10 +121,11 @@ fn find_free<S: Store>(
                 bucket: bucket.number,
             });
         }
-        if let Some(place) = find_room(store, &bucket, name) {
+        let lengths = record_lengths(bucket.bytes);
+        if let Some(place) = find_room(store, &bucket, lengths, name) {
             return Ok(place);
         }
-        in_the_way = in_the_way || fits_without(&bucket, name);
+        in_the_way = in_the_way || fits_without(&bucket, lengths, name);
     }
     if in_the_way {
         Err(Fault::Full)

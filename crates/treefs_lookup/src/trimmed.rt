@@ -1,13 +1,14 @@
 // Whether anything stands past the size of a file.
 
-ghost use Rattle.std.specs.Prelude.{◌≡◌, ◌<◌, ◌≤◌};
+ghost use Rattle.std.specs.Prelude.{◌≡◌, ◌<◌, ◌≤◌, length};
 ghost use Rattle.std.specs.Bool.{MatchBool};
 ghost use Rattle.treefs_format.specs.Leaves.{greatest_size};
 ghost use Rattle.treefs_format.specs.Paths.{leaf_count, place_in_tree};
 ghost use Rattle.treefs_lookup.specs.Readable.{readable};
-ghost use Rattle.treefs_lookup.specs.Trimmed.{IsCut, IsTrimmed, NoneBegins, SomeBegins, bytes_past, is_first, is_first_node};
+ghost use Rattle.treefs_lookup.specs.Trimmed.{IsCut, IsTrimmed, NoneBegins, SomeBegins, bytes_past, is_first, is_first_node, pointers_past};
 ghost use Rattle.xn_model.specs.Lists.{blank};
 
+use crate::blocks::read_block;
 use crate::bytes::{copy_part, part_left};
 use crate::inodes::Found;
 use crate::leaves::leaf_behind;
@@ -15,6 +16,7 @@ use crate::paths::find_leaf;
 use edit_list::Fs;
 use store_types::BLOCK_LEN;
 use treefs_format::Kind;
+use treefs_format::inodes::CONTENT;
 use treefs_format::paths::{LEAVES, first_leaf, height};
 use treefs_format::sizes::{GREATEST_SIZE, leaves_kept};
 use xn_state::Store;
@@ -42,11 +44,24 @@ fn is_first_node(leaf: u32, levels: usize) -> bool
     levels <= height(leaf) as usize && is_first(leaf, levels)
 }
 
+/// Whether an inode block has no pointer to a leaf at or past one, and none to a tree in which such a leaf may stand.
+fn has_no_pointers(inode: &[u8; BLOCK_LEN], from: u32) -> bool
+    ensures { result ≡ blank (pointers_past inode.now from) }
+{
+    let start = (48 + 4 * from.min(16)) as usize;
+    are_zeros(&inode[start..CONTENT])
+}
+
 /// Whether a leaf or a node of an inode is there that begins at or past a leaf. What is below a node that is missing is passed over at once.
 pub fn stands_past<S: Store>(store: &S, fs: Fs, inode: u32, from: u32) -> bool
     ensures { MatchBool result (SomeBegins (readable (S.state_of store.now) fs.number) inode from)
         (NoneBegins (readable (S.state_of store.now) fs.number) inode from leaf_count) }
 {
+    if let Some(bytes) = read_block(store, fs, inode)
+        && has_no_pointers(bytes, from)
+    {
+        return false;
+    }
     let mut number = from;
     while number < LEAVES {
         let reach = find_leaf(store, fs, inode, number);
@@ -58,11 +73,15 @@ pub fn stands_past<S: Store>(store: &S, fs: Fs, inode: u32, from: u32) -> bool
     false
 }
 
+/// A block of zeros.
+const ZEROS: [u8; BLOCK_LEN] = [0; BLOCK_LEN];
+
 /// Whether bytes are all 0.
 fn are_zeros(bytes: &[u8]) -> bool
+    requires { length bytes.now ≤ 512 }
     ensures { result ≡ blank bytes.now }
 {
-    bytes.iter().all(|byte| *byte == 0)
+    bytes == &ZEROS[..bytes.len()]
 }
 
 /// Whether the bytes from a size on that stand together with the first of them are zeros: those behind it in the inode, or in its leaf.

@@ -1,10 +1,18 @@
-use Rattle.std.proofs.Common.{arith, sym, ◌∙◌, subst}
+use Rattle.std.proofs.Common.{ap, arith, sym, ◌∙◌, subst}
+use Rattle.xn_model.specs.Lists.{blank}
 use Rattle.treefs_lookup.specs.Readable.{readable}
-use Rattle.treefs_lookup.specs.Trimmed.{NoneBegins}
+use Rattle.treefs_lookup.specs.Trimmed.{NoneBegins, pointers_past}
 use Rattle.treefs_lookup.proofs.FirstBlocks.{leaf_begins, none_begins, node_begins}
 use Rattle.treefs_lookup.proofs.PassedLeaves.{goes_on}
 use Rattle.treefs_lookup.proofs.trimmed.stands_past.Goals.{then-reach-eq0-via-then-reach-eq0, then-reach-eq0-via-else-reach-eq0+then-is_first_node}
+use Rattle.treefs_lookup.proofs.ZeroPointers.{none_past}
 use Rattle.treefs_lookup.proofs.trimmed.stands_past.Goals as goal
+
+pub returns : goal.returns
+returns g c =
+    let content = readable (g.S.Store.state_of c.args.store.now) c.args.fs.number in
+    none_past content c.args.inode c.args.from
+    (ap (λ l. blank (pointers_past l c.args.from)) c.in-Some.ensures ∙ (sym c.has_no_pointers.ensures ∙ c.if-has_no_pointers.true))
 
 pub returns-then-reach-eq0 : goal.returns-then-reach-eq0
 returns-then-reach-eq0 g c =
