@@ -21,6 +21,7 @@ use Rattle.treefs_values.proofs.Ways.{counted, inode_pointer, node_pointer, step
 use Rattle.treefs_values.proofs.Elsewhere.{file_read, inode_numbered, no_file}
 use Rattle.treefs_values.proofs.Alike.{IsAlike, bucket_same, inode_alike}
 use Rattle.treefs_values.proofs.Kept.{same_directory}
+use Rattle.treefs_values.proofs.Standing.{KeepsInodes}
 
 -- The height to which a way leads
 
@@ -193,6 +194,20 @@ module _ (node inode top : ℕ) (type : ℕ → ℕ) (old new : ℕ → List ℕ
       where
         key_from : (a b : ℕ → List ℕ) → content_of (a top) ≡ content_of (b top) → key_in a top ≡ key_in b top
         key_from a b same = ap key_of same
+
+    pub attached_inodes : KeepsInodes old new top
+    attached_inodes = record {
+      key = key_same;
+      inodes = λ m some there. record {
+        block = inode_stays m (λ same. there (ap (block_numbered old top) same ∙ was_none));
+        alike = other_alike m some there;
+        ways = λ l os way. way_stays m l os way (λ z e. some z);
+      };
+    }
+      where
+        was_none : block_numbered old top n ≡ 0
+        was_none =
+            inode_numbered old top n number ∙ (ap (λ t. if t then 0 else leaf_block old top (n - 1)) is_number ∙ (ap (block_at old top) steps_are ∙ free.was))
 
     -- its value has its number, and all else is as before
     others_same : (m : ℕ) → m ≢ n → files_of new top m ≡ files_of old top m

@@ -17,6 +17,7 @@ use Rattle.treefs_values.proofs.Alike.{IsAlike, bucket_same, inode_alike}
 use Rattle.treefs_values.proofs.Elsewhere.{file_read, inode_numbered, no_file}
 use Rattle.treefs_values.proofs.Kept.{same_directory}
 use Rattle.treefs_values.proofs.Owners.{of_types}
+use Rattle.treefs_values.proofs.Standing.{KeepsInodes}
 use Rattle.treefs_values.proofs.Ways.{inode_pointer, inode_same, leaf_same, node_pointer, numbered_same, steps_way, still_typed, way_same}
 
 module _ (node inode top : ℕ) (type : ℕ → ℕ) (old : ℕ → List ℕ) (v : IsVolume node inode type old top) (b ty : ℕ) (bytes : List ℕ) (no_type : type b ≡ 0)
@@ -178,3 +179,32 @@ module _ (node inode top : ℕ) (type : ℕ → ℕ) (old : ℕ → List ℕ) (v
         subst (λ c. IsDirectory new (key_in new top) c) (sym (same_block n)) (subst (λ key. IsDirectory new key (block n)) (sym key_same)
         (directory_so n n_some (λ z. there (same_block n ∙ z)) (sym (ap (λ c. kind_of (fields_of (new c)).mode) (same_block n)) ∙ is)));
   }
+
+  -- inodes stay, and ways of inode 0
+  pub begun_inodes : KeepsInodes old new top
+  begun_inodes = record {
+    key = key_same;
+    inodes = λ n some there. record {
+      block = same_block n;
+      alike = alike n there;
+      ways = λ l os way. way_same node inode top type old new v.typed keeps n l os way;
+    };
+  }
+
+  pub begun_ways : (l : ℕ) (os : List ℕ) → IsWay os l → block_at new top os ≡ block_at old top os
+  begun_ways l os way = way_same node inode top type old new v.typed keeps 0 l os way
+
+  -- other blocks that nothing points to
+  pub begun_unled : (x : ℕ) → x ≢ 0 → ((p o : ℕ) → IsTrue (has_pointer node inode (type p) o) → pointed old p o ≢ x) →
+      (p o : ℕ) → IsTrue (has_pointer node inode (type' p) o) → pointed new p o ≢ x
+  begun_unled x some unled p o has = by (cases_eq p b)
+    where
+      by : (p ≡ b) ⊎ (p ≢ b) → pointed new p o ≢ x
+      by (inl same) = λ is. some (sym is ∙ none_here p o same has)
+      by (inr ne) = λ is. let h = has_other p o ne has in unled p o h (sym (keeps p o h) ∙ is)
+
+  pub begun_other : (x : ℕ) → type x ≢ 0 → (x ≢ b) × (type' x ≡ type x) × (new x ≡ old x)
+  begun_other x some = let ne : x ≢ b = λ same. some (ap type same ∙ no_type) in (ne, typed_other x ne, changed x ne)
+
+  pub begun_here : (type' b ≡ ty) × (new b ≡ bytes)
+  begun_here = (ap (λ t. if t then ty else type b) (eq-eqb b b refl), ap (λ t. if t then bytes else old b) (eq-eqb b b refl))

@@ -27,6 +27,7 @@ use Rattle.treefs_values.proofs.Alike.{in_leaf}
 use Rattle.treefs_values.proofs.Apart.{inodes_apart, leaf_no_inode, same_way, starts}
 use Rattle.treefs_values.proofs.Attaching.{one_height}
 use Rattle.treefs_values.proofs.Elsewhere.{file_read, inode_numbered, no_file}
+use Rattle.treefs_values.proofs.Standing.{KeepsInodes, KeepsNames}
 use Rattle.treefs_values.proofs.Ways.{inode_pointer, node_pointer, steps_way}
 
 -- A bucket of another block, or one that comes to be there, may have other bytes, but no other records
@@ -263,6 +264,52 @@ module _ (node inode top : ℕ) (type : ℕ → ℕ) (old new : ℕ → List ℕ
             let some : block m ≢ 0 = λ z. there (sym is ∙ z) in
             file_read new top m (block m) (inode_same m ∙ sym is) some
             ∙ (ap (λ key. inode_of new key (block m)) key_same ∙ (inode_alike m (key_in old top) m_some some ∙ sym (file_read old top m (block m) (sym is) some)))
+
+    -- the block stands at the end of its way
+    holder_stays : block_at new (block n) q ≡ holder
+    holder_stays = by q way_there holder_some
+      where
+        by : (q : List ℕ) → IsWay (o ∷ q) l → at n q ≢ 0 → block_at new (block n) q ≡ at n q
+        by [] way there = refl
+        by (r ∷ rs) way there = elim (grown n (suc l) (r ∷ rs) way.3) [ inl same ↦ same | inr led ↦ absurd (there led.0) ]
+
+    pub empty_there : block_at new (block_numbered new top n) (o ∷ q) ≡ b
+    empty_there = ap (λ c. block_at new c (o ∷ q)) (block_same n) ∙ (ap (λ c. pointed new c o) holder_stays ∙ set.now)
+
+    -- records stay
+    pub empty_names : (m : ℕ) → m ≢ 0 → block m ≢ 0 → KeepsNames old new top m
+    empty_names m m_some there = record {
+      key = key_same;
+      block = block_same m;
+      fields = own_fields m there;
+      entries = λ k. bucket_entries_same m k m_some there;
+    }
+
+    -- of the table: all inodes stay
+    module _ (of_table : n ≡ 0) where
+      no_inode : (m : ℕ) → m ≢ 0 → block m ≢ 0 → block m ≢ holder
+      no_inode m m_some there is = by q way_there holder_some is
+        where
+          by : (q : List ℕ) → IsWay (o ∷ q) l → at n q ≢ 0 → block m ≡ at n q → ⊥
+          by [] way some' is' = m_some (inodes_apart node inode top type old v.types.0 v.typed v.apart f.paths_once m n there is' ∙ of_table)
+          by (r ∷ rs) way some' is' = v.types.0 (sym (v.typed.nodes n l (r ∷ rs) way.3 some') ∙ (ap type (sym is') ∙ v.typed.inodes m there))
+
+      all_ways : (m k : ℕ) (os : List ℕ) → m ≢ 0 → IsWay os k → now m os ≡ at m os
+      all_ways m k os m_some way = elim (grown m k os way) [ inl same ↦ same | inr led ↦ absurd (m_some (led.2 ∙ of_table)) ]
+
+      pub table_inodes : KeepsInodes old new top
+      table_inodes = record {
+        key = key_same;
+        inodes = λ m m_some there. record {
+          block = block_same m;
+          alike = record {
+            own = set.changed (block m) (no_inode m m_some there);
+            leaves = λ i. all_ways m 0 (steps i) m_some (steps_way i);
+            bytes = λ i leaf_some. set.changed (leaf_block old (block m) i) (no_leaf m i m_some leaf_some);
+          };
+          ways = λ k os way. all_ways m k os m_some way;
+        };
+      }
 
     -- it is a volume still
 

@@ -1,7 +1,25 @@
 -- What crates above cite in their proofs. They import no other module of these proofs.
+
+-- what is read
+pub use Rattle.treefs_values.proofs.Alike.{IsAlike, bucket_same, in_leaf}
+pub use Rattle.treefs_values.proofs.Entries.{same_bytes, same_eq}
+pub use Rattle.treefs_values.proofs.Elsewhere.{inode_numbered}
 pub use Rattle.treefs_values.proofs.Named.{candidates_few}
-pub use Rattle.treefs_values.proofs.FoundEntries.{IsEntry, IsFound, entry_is, found_inode}
-pub use Rattle.treefs_values.proofs.LookUps.{inodes_found, numbers_found}
-pub use Rattle.treefs_values.proofs.NamesEnd.{name_ended}
+pub use Rattle.treefs_values.proofs.Ways.{counted}
+pub use Rattle.treefs_values.proofs.FoundEntries.{IsEntry, IsFound, directory_is, entry_is, found_inode}
+pub use Rattle.treefs_values.proofs.LookUps.{inodes_found, numbers_found, numbers_named}
+-- edits of one block
+pub use Rattle.treefs_values.proofs.NamesEnd.{links_make, name_ended, same_size}
 pub use Rattle.treefs_values.proofs.Readings.{acts_read}
 pub use Rattle.treefs_values.proofs.ManyChanges.{fields_changed}
+pub use Rattle.treefs_values.proofs.NewInodes.{bare_inode, bare_node, inode_small, node_small}
+pub use Rattle.treefs_values.proofs.PointerSet.{inode_offset, low_offset}
+-- edits one after another
+pub use Rattle.treefs_values.proofs.Standing.{IsKeptInode, KeepsInodes, KeepsNames, inodes_stay, inodes_then}
+pub use Rattle.treefs_values.proofs.Pending.{AreNew, IsNew, IsOther, New, all_front, new_kept, new_parts}
+pub use Rattle.treefs_values.proofs.Walks.{AreBegun, AreOf, IsAt, IsEdit, IsFineStart, begun_so, edit_is, of_long, of_parts, ran_parts}
+pub use Rattle.treefs_values.proofs.Chains.{blocks_in}
+pub use Rattle.treefs_values.proofs.Placing.{AreFree, IsBehind, IsDirectoryAt, IsOwn, IsPlace, directory_kept, directory_names, directory_stays, free_stays, made_behind, place_stays, placed_files, placed_here}
+pub use Rattle.treefs_values.proofs.Placing.{rewritten_behind, rewritten_directory, rewritten_files, rewritten_here, rewritten_inode, rewritten_keeps, rewritten_ways}
+pub use Rattle.treefs_values.proofs.Tabled.{IsLeafed, IsTabled, leafed_so, tabled_so}
+pub use Rattle.treefs_values.proofs.Fielding.{fields_files, fields_here, fields_inode, fields_keep, fields_key}

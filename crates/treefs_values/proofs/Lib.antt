@@ -7,8 +7,11 @@ pub mod Numbers
 pub mod Named
 pub mod Keeping
 pub mod Putting
+pub mod Standing
 pub mod Kept
 pub mod Numbered
+pub mod Rewriting
+pub mod Anew
 pub mod Fielded
 pub mod Making
 pub mod ManyChanges
@@ -25,5 +28,14 @@ pub mod Begun
 pub mod BegunRead
 pub mod PointerSet
 pub mod Zeros
+pub mod NewInodes
+pub mod Pending
+pub mod Walks
+pub mod Chains
+pub mod Paths
+pub mod Numbering
+pub mod Placing
+pub mod Fielding
+pub mod Tabled
 pub mod EmptyBlocks
 pub mod ForCallers

@@ -36,7 +36,7 @@ module _ (content : ℕ → List ℕ) (c : ℕ) (name : List ℕ) where
       by rest None is = rw is rest
       by rest (Some r) is = rw is refl
 
-  numbers_named : (key : List ℕ) → option_map number_of_slot (slot_named content key c name) ≡ number_of content key c name
+  pub numbers_named : (key : List ℕ) → option_map number_of_slot (slot_named content key c name) ≡ number_of content key c name
   unfolding slot_named
   numbers_named key = numbers_among (candidates (name_hash key name))
 

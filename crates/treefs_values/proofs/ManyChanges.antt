@@ -1,5 +1,5 @@
 -- Fields of an inode change by an edit of its block.
-use Rattle.std.proofs.Common.{◌≡◌, Some, ◌≢◌, ℕ, ◌+◌, ◌<◌, ◌≤◌, List, [], ◌∷◌, length, Option, refl, sym, ◌∙◌, ap, arith, subst}
+use Rattle.std.proofs.Common.{◌≡◌, Some, ◌≢◌, ℕ, ◌+◌, ◌<◌, ◌≤◌, List, [], ◌∷◌, length, Option, refl, sym, ◌∙◌, ap, inl, arith, subst}
 use Rattle.std.specs.Prelude.{All, IsTrue, flat_map, fold, map}
 use Rattle.std.proofs.lemmas.List.Elements.{All-append, All-head, All-nil, All-tail}
 use Rattle.xn_model.specs.Calls.{patched}
@@ -15,14 +15,18 @@ use Rattle.treefs_format.specs.declared.kind.Kind.{Kind}
 use Rattle.treefs_format.specs.declared.kind.Kind.TheVariants as kind
 use Rattle.treefs_model.specs.Changes.{moved_to, with_bytes}
 use Rattle.treefs_model.specs.Files.{Content, Inode, changed_at}
-use Rattle.treefs_model.specs.Reading.{files_of, inode_with}
+use Rattle.treefs_model.specs.Reading.{files_of, inode_with, key_in}
 use Rattle.treefs_edits.specs.Written.{written}
 use Rattle.treefs_values.specs.Parts.{IsChangedAt}
 use Rattle.treefs_values.specs.Volumes.{IsWholeBlock, IsVolume}
 use Rattle.treefs_values.specs.Values.{AreChanges}
-use Rattle.treefs_values.specs.Ways.{block_numbered}
+use Rattle.treefs_values.specs.Ways.{SamePointers, block_numbered}
+use Rattle.treefs_values.proofs.Elsewhere.{key_stays, other_alike}
 use Rattle.treefs_values.proofs.Fielded.{files_fielded, files_resized, volume_fielded}
 use Rattle.treefs_values.specs.KnownLayout.{IsLayout}
+use Rattle.treefs_values.proofs.Keeping.{keeps_inode}
+use Rattle.treefs_values.proofs.Standing.{IsKeptInode}
+use Rattle.treefs_values.proofs.Ways.{numbered_same, way_same}
 use Rattle.treefs_values.proofs.Numbered.{bytes_small}
 use Rattle.treefs_values.proofs.Putting.{block_put, written_here, written_other}
 
@@ -90,6 +94,19 @@ module _ (node inode top : ℕ) (type : ℕ → ℕ) (old : ℕ → List ℕ) (v
 
   others : IsChangedAt c old new
   others x ne = written_other (changes_act c changes behind) old x ne
+
+  pub changes_keep : SamePointers node inode type old new
+  changes_keep = keeps_inode node inode type c old new others v.types.0 (v.typed.inodes n there) made.pointers
+
+  pub changes_inode : (m : ℕ) → m ≢ n → m ≢ 0 → block_numbered old top m ≢ 0 → IsKeptInode old new top m
+  changes_inode m ne some m_there = record {
+    block = numbered_same node inode top type old new v.typed changes_keep m;
+    alike = other_alike node inode top type old new v.types.0 v.typed v.apart changes_keep f.paths_once n c number there (inl refl) others m ne some m_there;
+    ways = λ l os way. way_same node inode top type old new v.typed changes_keep m l os way;
+  }
+
+  pub changes_key : key_in new top ≡ key_in old top
+  changes_key = key_stays node inode top type old new v.types.0 v.typed v.apart changes_keep f.paths_once n c number there (inl refl) others v.root
 
   module _ (size : now.size ≡ was.size) (same_kind : kind_of now.mode ≡ kind_of was.mode) (change : Inode → Inode)
       (makes : (content : Content) → moved_to was.parent content ≡ content → inode_with now (moved_to now.parent content) ≡ change (inode_with was content)) where

@@ -49,7 +49,7 @@ module _ (high : (hash level : ℕ) → candidate hash level < first_bucket (lev
 abbrev pub named_as : Names → List ℕ → Option ℕ → Names
 named_as names name now x = if bytes_eq x name then now else names x
 
-directory_read : (content : ℕ → List ℕ) (key : List ℕ) (c : ℕ) (f : Fields) → fields_of (content c) ≡ f → kind_of f.mode ≡ Some kind.Directory →
+pub directory_read : (content : ℕ → List ℕ) (key : List ℕ) (c : ℕ) (f : Fields) → fields_of (content c) ≡ f → kind_of f.mode ≡ Some kind.Directory →
     inode_of content key c ≡ Some (inode_with f (Directory f.parent (number_of content key c)))
 directory_read content key c f is kind_is =
     ap (λ (g : Fields). option_map (λ k. inode_with g (content_at content key c g.parent k)) (kind_of g.mode)) is

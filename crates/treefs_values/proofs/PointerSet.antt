@@ -29,16 +29,22 @@ within low high o h =
     let b = and_parts (nat_lt o high) (o % 4 == 0) a.1 in
     (leb-true low o a.0, ltb-true o high b.0, eqb-true (o % 4) 0 b.1)
 
-any_offset : (node inode t o : ℕ) → IsTrue (has_pointer node inode t o) → (o + 4 ≤ 512) × (o % 4 ≡ 0)
+pub any_offset : (node inode t o : ℕ) → IsTrue (has_pointer node inode t o) → (o + 4 ≤ 512) × (o % 4 ≡ 0)
 any_offset node inode t o has = elim (or_cases ((t == node) && is_node_offset o) ((t == inode) && is_inode_offset o) has) [
   | inl a ↦ let w = within 4 512 o (and_parts (t == node) (is_node_offset o) a).1 in let x = w.1 in let y = w.2 in (omega arith, w.2)
   | inr b ↦ let w = within 48 128 o (and_parts (t == inode) (is_inode_offset o) b).1 in let x = w.1 in (omega arith, w.2)
 ]
 
-inode_offset : (node inode t o : ℕ) → node ≢ inode → t ≡ inode → IsTrue (has_pointer node inode t o) → (48 ≤ o) × (o + 4 ≤ 128)
+pub inode_offset : (node inode t o : ℕ) → node ≢ inode → t ≡ inode → IsTrue (has_pointer node inode t o) → (48 ≤ o) × (o + 4 ≤ 128)
 inode_offset node inode t o other is has = elim (or_cases ((t == node) && is_node_offset o) ((t == inode) && is_inode_offset o) has) [
   | inl a ↦ absurd (other (sym (eqb-true t node (and_parts (t == node) (is_node_offset o) a).0) ∙ is))
   | inr b ↦ let w = within 48 128 o (and_parts (t == inode) (is_inode_offset o) b).1 in let x = w.1 in let y = w.2 in (w.0, omega arith)
+]
+
+pub low_offset : (node inode t o : ℕ) → IsTrue (has_pointer node inode t o) → (4 ≤ o) × (o + 4 ≤ 512) × (o % 4 ≡ 0)
+low_offset node inode t o has = elim (or_cases ((t == node) && is_node_offset o) ((t == inode) && is_inode_offset o) has) [
+  | inl a ↦ let w = within 4 512 o (and_parts (t == node) (is_node_offset o) a).1 in let x = w.1 in let y = w.2 in (w.0, omega arith, w.2)
+  | inr b ↦ let w = within 48 128 o (and_parts (t == inode) (is_inode_offset o) b).1 in let z = w.0 in let x = w.1 in (omega arith, omega arith, w.2)
 ]
 
 module _ (node inode : ℕ) (type : ℕ → ℕ) (old : ℕ → List ℕ) (holder offset ty b : ℕ) (behind : Option ℕ) (other : node ≢ inode) (some : holder ≢ 0) (whole : IsWholeBlock (old holder))

@@ -23,7 +23,7 @@ use Rattle.treefs_values.specs.KnownLayout.{IsLayout}
 
 -- Bytes
 
-length_put : (m bytes : List ℕ) (at : ℕ) → at + length bytes ≤ length m → length (put m at bytes) ≡ length m
+pub length_put : (m bytes : List ℕ) (at : ℕ) → at + length bytes ≤ length m → length (put m at bytes) ≡ length m
 length_put m bytes at fits =
     let front = length-take-le at m (omega arith) in
     let back = length-drop (at + length bytes) m in

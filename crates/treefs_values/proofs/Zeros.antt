@@ -7,7 +7,7 @@ use Rattle.treefs_format.proofs.ForCallers.{blank_at, blank_drop, blank_none}
 use Rattle.treefs_format.specs.Buckets.{is_whole}
 use Rattle.treefs_format.specs.Records.{end_of, entries_of}
 
-zeros_blank : (n : ℕ) → IsTrue (blank (zeros n))
+pub zeros_blank : (n : ℕ) → IsTrue (blank (zeros n))
 zeros_blank zero = refl
 zeros_blank (suc n) = zeros_blank n
 

@@ -1,15 +1,18 @@
 -- An inode that gets its number.
 --     IsTreeBelow       the blocks on the ways from a block have their types
 --     IsFreeInode       an inode of no number, with its tree
+--     new_content       what a new inode of a kind says that begins with some bytes
 --     IsEmptyBlock      a node without pointers, or a leaf of zeros
 --     IsPointerSet      one pointer, that led nowhere, leads to a block, and all else that is read of inodes and nodes is as before
-use Rattle.std.specs.Prelude.{◌≡◌, ◌≢◌, ◌⊎◌, ℕ, suc, ◌<◌, List, IsTrue, Some}
+use Rattle.std.specs.Prelude.{◌≡◌, ◌≢◌, ◌⊎◌, ℕ, suc, ◌<◌, List, IsTrue, None, Some}
 use Rattle.xn_model.specs.BareDisks.{zeros}
 use Rattle.xn_model.specs.Root.{word_at}
 use Rattle.treefs_format.specs.Fields.{fields_of}
 use Rattle.treefs_format.specs.Inodes.{content_of, kind_of}
 use Rattle.treefs_format.specs.Paths.{leaf_count}
 use Rattle.treefs_format.specs.declared.kind.Kind.TheVariants as kind
+use Rattle.treefs_format.specs.declared.kind.Kind.{Kind}
+use Rattle.treefs_model.specs.Files.{Content, Directory, File, SymbolicLink}
 use Rattle.treefs_model.specs.Reading.{block_at, leaf_block, pointed}
 use Rattle.treefs_model.specs.Trees.{has_pointer}
 use Rattle.treefs_values.specs.Parts.{IsChangedAt}
@@ -25,6 +28,12 @@ pub record IsFreeInode (node inode : ℕ) (type : ℕ → ℕ) (content : ℕ �
   pub typed : type block ≡ inode
   pub tree : IsTreeBelow node type content block
   pub directory : kind_of (fields_of (content block)).mode ≡ Some kind.Directory → IsDirectory content key block
+
+-- parent: the directory in which a directory stands
+abbrev pub new_content : Kind → ℕ → List ℕ → Content
+new_content kind.Directory parent head = Directory parent (λ name. None)
+new_content kind.File parent head = File head
+new_content kind.SymbolicLink parent head = SymbolicLink head
 
 pub record IsPointerSet (node inode : ℕ) (type : ℕ → ℕ) (old new : ℕ → List ℕ) (holder offset block : ℕ) : Type 0 where
   pub changed : IsChangedAt holder old new

@@ -6,11 +6,12 @@ ghost use Rattle.xn_model.specs.Lives.{StoreState};
 ghost use Rattle.xn_model.specs.Calls.{init_of, root_of};
 ghost use Rattle.xn_model.specs.Root.{word_at};
 ghost use Rattle.xn_model.specs.Rules.{IsConsistent};
-ghost use Rattle.treefs_format.specs.Buckets.{room_behind};
+ghost use Rattle.treefs_format.specs.Buckets.{live_entries, room_behind};
 ghost use Rattle.treefs_format.specs.Candidates.{candidates, name_hash};
-ghost use Rattle.treefs_format.specs.Fields.{changed, fields_of};
+ghost use Rattle.treefs_format.specs.Fields.{AreInRange, changed, fields_of};
 ghost use Rattle.treefs_format.specs.declared.fields.Change.{Change};
-ghost use Rattle.treefs_format.specs.Inodes.{kind_of};
+ghost use Rattle.treefs_format.specs.declared.fields.Fields.{Fields};
+ghost use Rattle.treefs_format.specs.Inodes.{inode_bytes, kind_of};
 ghost use Rattle.treefs_format.specs.Leaves.{greatest_size};
 ghost use Rattle.treefs_format.specs.Names.{is_name};
 ghost use Rattle.treefs_format.specs.Paths.{leaf_count, steps};
@@ -30,10 +31,10 @@ ghost use Rattle.treefs_lookup.specs.Names.{entry_found};
 ghost use Rattle.treefs_lookup.specs.declared.inodes.Found.{Found};
 ghost use Rattle.treefs_lookup.specs.Readable.{readable};
 ghost use Rattle.treefs_lookup.specs.declared.names.Slot.{Slot};
-ghost use Rattle.treefs_edits.specs.Kinds.{links_act};
+ghost use Rattle.treefs_edits.specs.Kinds.{links_act, rewritten_act};
 ghost use Rattle.treefs_edits.specs.declared.times.Times.{Times};
 ghost use Rattle.treefs_edits.specs.Written.{all_written, written};
-ghost use Rattle.treefs_values.specs.Attached.{IsEmptyBlock, IsFreeInode, IsPointerSet};
+ghost use Rattle.treefs_values.specs.Attached.{IsEmptyBlock, IsFreeInode, IsPointerSet, new_content};
 ghost use Rattle.treefs_values.specs.Begun.{with_block};
 ghost use Rattle.treefs_values.specs.Bytes.{bucket_at, place_in_bucket, with_put};
 ghost use Rattle.treefs_values.specs.Kinds.{kinds};
@@ -44,8 +45,9 @@ ghost use Rattle.treefs_values.specs.Volumes.{IsWholeBlock, IsVolume};
 ghost use Rattle.treefs_values.specs.Ways.{ArePointersApart, IsTyped, IsWay, SamePointers, block_numbered};
 
 use treefs_format::law::{
-    changes_are_made, content_is_written, inode_pointers_are_set, levels_are_apart,
-    numbers_are_set, paths_are_leaves, records_are_made, records_stand_in_buckets,
+    changes_are_made, content_is_written, inode_pointers_are_set, inodes_are_read_back,
+    levels_are_apart, nodes_are_read_back, numbers_are_set, paths_are_leaves, records_are_made,
+    records_stand_in_buckets,
 };
 
 /// The laws of the layout, together.
@@ -59,6 +61,9 @@ pub fn layout_is_known()
     records_are_made();
     records_stand_in_buckets();
     changes_are_made();
+    inode_pointers_are_set();
+    inodes_are_read_back();
+    nodes_are_read_back();
 }
 
 /// Where pointers are the same, so are the blocks of inodes, nodes and leaves.
@@ -118,6 +123,31 @@ pub fn names_are_made()
         let act = record_act (bucket_block content c k) (bucket_start k + end_of (bucket_of content c k)) e behind in
         IsVolume node inode type (written act content) top
         × (files_of (written act content) top ≡ with_name (files_of content top) n e.name (led_to e.number)) }
+{
+    layout_is_known();
+}
+
+/// A record is made where a dead one of its name stands: the name leads to its number, and all else is as before.
+pub fn names_are_made_anew()
+    ensures { (node inode top : ℕ) (type : ℕ → ℕ) (content : ℕ → List ℕ) → IsVolume node inode type content top →
+        (n k number : ℕ) (r : Record) (behind : Option ℕ) →
+        n ≢ 0 → block_numbered content top n ≢ 0 → k ≤ leaf_count → kind_of (fields_of (content (block_numbered content top n))).mode ≡ Some Directory →
+        Contains (records_of (bucket_of content (block_numbered content top n) k)) r → number < 2 ^ 32 → let c = block_numbered content top n in
+        let act = record_act (bucket_block content c k) (bucket_start k + r.offset) (record { number = number; name = r.entry.name }) behind in
+        IsVolume node inode type (written act content) top
+        × (files_of (written act content) top ≡ with_name (files_of content top) n r.entry.name (led_to number)) }
+{
+    layout_is_known();
+}
+
+/// A bucket of a directory is rewritten: it has its live records, in their order, and the files are as before.
+pub fn buckets_are_rewritten()
+    ensures { (node inode top : ℕ) (type : ℕ → ℕ) (content : ℕ → List ℕ) → IsVolume node inode type content top → (n k : ℕ) →
+        n ≢ 0 → block_numbered content top n ≢ 0 → k ≤ leaf_count → kind_of (fields_of (content (block_numbered content top n))).mode ≡ Some Directory →
+        let c = block_numbered content top n in 0 < end_of (bucket_of content c k) →
+        let act = rewritten_act (bucket_block content c k) (bucket_start k) (bucket_of content c k) in
+        IsVolume node inode type (written act content) top × (files_of (written act content) top ≡ files_of content top)
+        × (bucket_entries (written act content) c k ≡ live_entries (bucket_of content c k)) }
 {
     layout_is_known();
 }
@@ -209,6 +239,17 @@ pub fn inodes_get_numbers()
         ArePointersApart node inode type new top → IsWholeBlock (new holder) →
         (files_of content top n ≡ None) × IsVolume node inode type new top
         × (files_of new top ≡ with_inode (files_of content top) n (inode_of content (key_in content top) block)) }
+{
+    layout_is_known();
+}
+
+/// A block with the bytes of a new inode is one of no number, without a tree, and says its fields and the beginning of its content.
+pub fn new_inodes_are_free()
+    ensures { (node inode : ℕ) (type : ℕ → ℕ) (content : ℕ → List ℕ) (key : List ℕ) (block : ℕ) (fields : Fields) (head : List ℕ) (kind : Kind) →
+        content block ≡ inode_bytes fields head → AreInRange fields → length head ≤ 384 → fields.size ≡ length head → kind_of fields.mode ≡ Some kind →
+        (kind ≡ Directory → head ≡ []) → block ≢ 0 → type block ≡ inode →
+        IsFreeInode node inode type content key block
+        × (inode_of content key block ≡ Some (inode_with fields (new_content kind fields.parent head))) }
 {
     layout_is_known();
 }

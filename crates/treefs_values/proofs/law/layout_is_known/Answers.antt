@@ -13,4 +13,11 @@ returns c = record {
   made_whole = c.records_are_made.ensures.whole;
   changes_made = c.changes_are_made.ensures.fields;
   changes_others = c.changes_are_made.ensures.others;
+  pointers_others = λ m blocks i long fits. (c.inode_pointers_are_set.ensures.others m blocks i long fits).0;
+  inode_long = c.inodes_are_read_back.ensures.long;
+  inode_fields = c.inodes_are_read_back.ensures.fields;
+  inode_pointers = c.inodes_are_read_back.ensures.pointers;
+  inode_content = c.inodes_are_read_back.ensures.content;
+  node_long = c.nodes_are_read_back.ensures.long;
+  node_children = c.nodes_are_read_back.ensures.children;
 }

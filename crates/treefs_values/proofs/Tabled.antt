@@ -1,0 +1,368 @@
+-- The edits by which a path is made: of the table to a new inode, and of a directory to a new leaf.
+use Rattle.std.proofs.Common.{◌≡◌, ◌≢◌, ◌⊎◌, ℕ, zero, suc, ◌+◌, ◌-◌, ◌<◌, ◌≤◌, ◌%◌, ◌^◌, Bool, List, [], ◌∷◌, ◌++◌, length, get_or, take, drop, Option, None, Some, Ok, refl, sym, ◌∙◌, ap, inl, inr, arith, subst, if◌then◌else◌}
+use Rattle.std.specs.Prelude.{⊤, All, map, nat_lt, reverse, slice_index, ◌==◌}
+use Rattle.std.proofs.lemmas.Bool.{lt-ltb}
+use Rattle.std.proofs.lemmas.List.{drop_more, get_or_at, length-reverse, length-take-le, reverse-append, take-append-drop, take_at}
+use Rattle.xn_model.specs.Types.{Types}
+use Rattle.xn_model.specs.BareDisks.{zeros}
+use Rattle.xn_model.specs.Lives.{StoreState}
+use Rattle.treefs_format.specs.Fields.{AreInRange}
+use Rattle.treefs_format.specs.Inodes.{inode_bytes, kind_of}
+use Rattle.treefs_format.specs.Paths.{leaf_count, steps}
+use Rattle.treefs_format.specs.Templates.{IsTree}
+use Rattle.treefs_format.specs.declared.fields.Fields.{Fields}
+use Rattle.treefs_format.specs.declared.kind.Kind.{Kind}
+use Rattle.treefs_format.specs.declared.kind.Kind.TheVariants as kind
+use Rattle.treefs_model.specs.Acts.{Act, Ran, attach_act}
+use Rattle.treefs_model.specs.Files.{with_inode}
+use Rattle.treefs_model.specs.Reading.{block_at, files_of, inode_with, leaf_block, pointed}
+use Rattle.treefs_lookup.specs.Readable.{readable}
+use Rattle.treefs_lookup.specs.Walks.{reach}
+use Rattle.treefs_edits.specs.Missing.{last_or_owner, missing_path, node_acts, node_starts, path_acts, path_starts}
+use Rattle.treefs_values.specs.Attached.{new_content}
+use Rattle.treefs_values.specs.Kinds.{kinds}
+use Rattle.treefs_values.specs.KnownLayout.{IsLayout}
+use Rattle.treefs_values.specs.Ways.{IsWay, block_numbered}
+use Rattle.treefs_values.proofs.Chains.{IsChain, IsChained, IsNext, Link, blocks_in, chain_acts, chain_starts, chained, last_bytes, reached, way_stands}
+use Rattle.treefs_values.proofs.Numbering.{numbered_files, numbered_here, numbered_inodes, numbered_keeps, numbered_was}
+use Rattle.treefs_values.proofs.Paths.{IsReached, missing_first, node_acts_are, node_links, node_reached, node_starts_are, onto, onto_is, onto_reverse, path_acts_are, path_links, path_reached, path_starts_are, reached_so, way_first}
+use Rattle.treefs_values.proofs.Pending.{AreNew, IsNew, IsOther, New}
+use Rattle.treefs_values.proofs.Standing.{KeepsInodes, KeepsNames, inodes_then}
+use Rattle.treefs_values.proofs.Walks.{AreOf, IsAt, edit_is}
+use Rattle.treefs_values.proofs.Ways.{steps_way}
+
+module _ (T : Types) (fs node inode top : ℕ) (few : fs < 32) (tree : IsTree T node inode) (known : IsLayout) where
+  abbrev IsHere : StoreState → Type 0
+  IsHere s = IsAt T fs node inode top s
+
+  -- A path of the table
+
+  -- an inode's offset behind its nodes
+  module _ (m : ℕ) (l0 : ℕ) (stands : (4 ≤ l0) × (l0 + 4 ≤ 512) × (l0 % 4 ≡ 0)) where
+    abbrev IsLater : ℕ → Type 0
+    IsLater o = o ≡ l0
+
+    pub later_stands : (o : ℕ) → IsLater o → (4 ≤ o) × (o + 4 ≤ 512) × (o % 4 ≡ 0)
+    later_stands o is = subst (λ x. (4 ≤ x) × (x + 4 ≤ 512) × (x % 4 ≡ 0)) (sym is) stands
+
+    way_up : (o : ℕ) (q os : List ℕ) → IsWay (l0 ∷ onto (o ∷ q) os) 0 → IsWay (onto (o ∷ q) os) 1
+    way_up o q [] way = way.3
+    way_up o q (p ∷ os) way = way_up p (o ∷ q) os way
+
+    pub node_chain : (q os : List ℕ) → IsWay (l0 ∷ onto q os) 0 → IsChain T fs node inode top few tree known m IsLater later_stands q (node_links node inode os)
+    node_chain q [] way = tt
+    node_chain q (o ∷ os) way =
+        let first = way_first o 1 q os (way_up o q os way) in
+        let height : first.0 ≡ 1 + length os = first.2 in
+        (first.0, first.1, (λ j e. refl), (λ e. absurd (omega (arith, e))), node_chain (o ∷ q) os way)
+
+    -- the first of its pointers, or else the inode's
+    pub next_in : (os : List ℕ) (o : ℕ) → IsNext T fs node inode top few tree known m IsLater later_stands (node_links node inode os) o →
+        ((os ≡ []) × (o ≡ l0)) ⊎ ((rest : List ℕ) × (os ≡ o ∷ rest))
+    next_in [] o next = inl (refl, next)
+    next_in (x ∷ os) o next = inr (os, ap (λ y. y ∷ os) (sym next))
+
+  -- What is planned: a path that lacks its end
+
+  drop_nil : (k : ℕ) → ◌≡◌ {A = List ℕ} (drop k []) []
+  drop_nil zero = refl
+  drop_nil (suc k) = refl
+
+  way_suffix : (os : List ℕ) (l k : ℕ) → IsWay os l → (drop k os ≡ []) ⊎ ((h : ℕ) × IsWay (drop k os) h)
+  way_suffix os l zero way = inr (l, way)
+  way_suffix [] l (suc k) way = absurd way
+  way_suffix (o ∷ []) l (suc k) way = inl (drop_nil k)
+  way_suffix (o ∷ p ∷ os) l (suc k) way = way_suffix (p ∷ os) (suc l) k way.3
+
+  -- from block b; the ways from it are as they were when it was planned
+  module _ (old plan : ℕ → List ℕ) (b : ℕ) (b_some : b ≢ 0) (ways : (l : ℕ) (os : List ℕ) → IsWay os l → block_at old b os ≡ block_at plan b os)
+      (leaf : ℕ) (leaf_few : leaf < leaf_count) (free : leaf_block plan b leaf ≡ 0) where
+    abbrev r_missing : ℕ
+    r_missing = (reach plan b (steps leaf)).missing
+
+    abbrev r_block : ℕ
+    r_block = (reach plan b (steps leaf)).block
+
+    is_reached : IsReached plan b b_some (steps leaf) (reach plan b (steps leaf))
+    is_reached = reached_so plan b b_some (steps leaf)
+
+    some_missing : r_missing ≢ 0
+    some_missing z = is_reached.there (is_reached.block ∙ (ap (λ k. block_at plan b (drop k (steps leaf))) z ∙ free))
+
+    pub record IsPathTo (l0 : ℕ) (q nodes : List ℕ) : Type 0 where
+      pub steps_are : steps leaf ≡ l0 ∷ onto q nodes
+      pub path : missing_path leaf r_missing ≡ nodes ++ l0 ∷ []
+      pub long : r_missing ≡ suc (length nodes)
+      pub holder : r_block ≡ block_at old b q
+      pub there : r_block ≢ 0
+      pub first_zero : nodes ≡ [] → pointed old r_block l0 ≡ 0
+      pub next_zero : (x : ℕ) (rest : List ℕ) → nodes ≡ x ∷ rest → pointed old r_block x ≡ 0
+
+    suffix_same : (k : ℕ) → block_at old b (drop k (steps leaf)) ≡ block_at plan b (drop k (steps leaf))
+    suffix_same k = elim (way_suffix (steps leaf) 0 k (steps_way leaf)) [
+      | inl none ↦ ap (block_at old b) none ∙ sym (ap (block_at plan b) none)
+      | inr way ↦ ways way.0 (drop k (steps leaf)) way.1
+    ]
+
+    module _ (l0 : ℕ) (above : List ℕ) (steps_are : steps leaf ≡ l0 ∷ above) (m : ℕ) (missing_is : r_missing ≡ suc m) where
+      lim : r_missing ≤ suc (length above)
+      lim = subst (λ os. r_missing ≤ length os) steps_are is_reached.few
+
+      m_few : m ≤ length above
+      m_few = let low = lim in omega arith
+
+      nodes_long : length (reverse (take m above)) ≡ m
+      nodes_long = length-reverse (take m above) ∙ length-take-le m above m_few
+
+      q_is : drop r_missing (steps leaf) ≡ drop m above
+      q_is = (λ j. drop (missing_is j) (steps_are j))
+
+      holder_is : r_block ≡ block_at old b (drop m above)
+      holder_is = is_reached.block ∙ (sym (suffix_same r_missing) ∙ ap (block_at old b) q_is)
+
+      abbrev x_first : ℕ
+      x_first = get_or (l0 ∷ above) m 0
+
+      at_first : drop m (steps leaf) ≡ x_first ∷ drop m above
+      at_first =
+          let lt : m < suc (length above) = (let low = m_few in omega arith) in
+          let more : m + 1 ≡ suc m = omega arith in
+          ap (drop m) steps_are ∙ (drop_more (l0 ∷ above) m 0 lt ∙ ap (λ k. x_first ∷ drop k (l0 ∷ above)) more)
+
+      zero_first : pointed old r_block x_first ≡ 0
+      zero_first =
+          ap (λ c. pointed old c x_first) holder_is
+          ∙ (sym (ap (block_at old b) at_first) ∙ (suffix_same m ∙ (ap (block_at plan b) at_first
+          ∙ (ap (λ c. pointed plan c x_first) (sym (is_reached.block ∙ ap (block_at plan b) q_is))
+          ∙ subst (λ os. pointed plan r_block (get_or os m 0) ≡ 0) steps_are (is_reached.next m missing_is)))))
+
+      path_is : IsPathTo l0 (drop m above) (reverse (take m above))
+      path_is = record {
+        steps_are = steps_are ∙ ap (λ l. l0 ∷ l) (sym (onto_reverse (drop m above) (take m above) ∙ take-append-drop m above));
+        path = ap (λ t. if t then reverse (take r_missing (steps leaf)) else []) (lt-ltb leaf leaf_count leaf_few)
+            ∙ ((λ j. reverse (take (missing_is j) (steps_are j))) ∙ reverse-append (l0 ∷ []) (take m above));
+        long = missing_is ∙ ap suc (sym nodes_long);
+        holder = holder_is;
+        there = is_reached.there;
+        first_zero = λ empty.
+            let none : m ≡ 0 = sym nodes_long ∙ ap length empty in
+            sym (ap (λ k. pointed old r_block (get_or (l0 ∷ above) k 0)) none) ∙ zero_first;
+        next_zero = λ x rest is. next_by m m_few zero_first x rest is;
+      }
+        where
+          next_by : (m : ℕ) → m ≤ length above → pointed old r_block (get_or (l0 ∷ above) m 0) ≡ 0 → (x : ℕ) (rest : List ℕ) → reverse (take m above) ≡ x ∷ rest →
+              pointed old r_block x ≡ 0
+          next_by zero low none x rest is = absurd (cc is)
+          next_by (suc m) low none x rest is =
+              let lt : m < length above = omega arith in
+              let same : get_or above m 0 ≡ x = first_same (get_or above m 0) x (reverse (take m above)) rest (sym (missing_first above m lt) ∙ is) in
+              ap (pointed old r_block) (sym same) ∙ none
+            where
+              first_or : List ℕ → ℕ
+              first_or [] = 0
+              first_or (y ∷ ys) = y
+
+              first_same : (x y : ℕ) (xs ys : List ℕ) → x ∷ xs ≡ y ∷ ys → x ≡ y
+              first_same x y xs ys e = ap first_or e
+
+    pub path_to : (l0 : ℕ) × (q : List ℕ) × (nodes : List ℕ) × IsPathTo l0 q nodes
+    path_to = by (steps leaf) refl r_missing refl (steps_way leaf)
+      where
+        by : (os : List ℕ) → steps leaf ≡ os → (k : ℕ) → r_missing ≡ k → IsWay (steps leaf) 0 → (l0 : ℕ) × (q : List ℕ) × (nodes : List ℕ) × IsPathTo l0 q nodes
+        by [] is k e way = absurd (subst (λ os. IsWay os 0) is way)
+        by (l0 ∷ above) is zero e way = absurd (some_missing e)
+        by (l0 ∷ above) is (suc m) e way = (l0, drop m above, reverse (take m above), path_is l0 above is m e)
+
+  -- The table: its nodes, and then the inode
+
+  module _ (old plan : StoreState) (here : IsHere old) (ways : (l : ℕ) (os : List ℕ) → IsWay os l → block_at (readable old fs) top os ≡ block_at (readable plan fs) top os)
+      (n : ℕ) (number : n ≢ 0) (n_few : n - 1 < leaf_count) (free : leaf_block (readable plan fs) top (n - 1) ≡ 0)
+      (fields : Fields) (head : List ℕ) (range : AreInRange fields) (short : length head ≤ 384) (size : fields.size ≡ length head)
+      (k : Kind) (kind_is : kind_of fields.mode ≡ Some k) (empty : k ≡ kind.Directory → head ≡ []) where
+    abbrev missing : ℕ
+    missing = (reach (readable plan fs) top (steps (n - 1))).missing
+
+    abbrev owner : ℕ
+    owner = (reach (readable plan fs) top (steps (n - 1))).block
+
+    abbrev path : List ℕ
+    path = missing_path (n - 1) missing
+
+    abbrev nodes_of : List ℕ
+    nodes_of = take (missing - 1) path
+
+    pub record IsTabled (xs : List New) (y : New) (rest : List Act) (new : StoreState) : Type 0 where
+      pub middle : StoreState
+      pub tabled : IsHere middle
+      pub ran : Ran T fs rest middle new (Ok tt)
+      pub was : files_of (readable old fs) top n ≡ None
+      pub files : files_of (readable middle fs) top ≡ with_inode (files_of (readable old fs) top) n (Some (inode_with fields (new_content k fields.parent head)))
+      pub keeps : (x : New) → IsNew node inode (kinds old fs) (readable old fs) top x → All (λ z. IsOther z x) xs → IsOther y x →
+          IsNew node inode (kinds middle fs) (readable middle fs) top x
+      pub inodes : KeepsInodes (readable old fs) (readable middle fs) top
+
+    module _ (xs : List New) (y : New) (of : AreOf T fs node inode top few tree (node_starts node inode nodes_of) xs)
+        (news : AreNew node inode (kinds old fs) (readable old fs) top xs) (new_y : IsNew node inode (kinds old fs) (readable old fs) top y) (others : All (λ z. IsOther z y) xs)
+        (y_type : y.ty ≡ inode) (y_bytes : y.bytes ≡ inode_bytes fields head) (rest : List Act) (new : StoreState) where
+      abbrev acts_by : List ℕ → ℕ → List Act
+      acts_by nodes last = node_acts node inode owner nodes (blocks_in xs) ++ attach_act (last_or_owner owner (blocks_in xs)) last inode (y.block ∷ []) (Some y.block) ∷ rest
+
+      tabled_by : (l0 : ℕ) (q nodes : List ℕ) →
+          IsPathTo (readable old fs) (readable plan fs) top here.volume.root ways (n - 1) n_few free l0 q nodes →
+          AreOf T fs node inode top few tree (node_starts node inode nodes) xs → Ran T fs (acts_by nodes l0) old new (Ok tt) → IsTabled xs y rest new
+      tabled_by l0 q nodes p of' ran =
+          let way : IsWay (l0 ∷ onto q nodes) 0 = subst (λ os. IsWay os 0) p.steps_are (steps_way (n - 1)) in
+          let stands = way_stands l0 0 (onto q nodes) way in
+          let links = node_links node inode nodes in
+          let last_act : Act = attach_act (last_or_owner owner (blocks_in xs)) l0 inode (y.block ∷ []) (Some y.block) in
+          let c = chained T fs node inode top few tree known 0 (IsLater 0 l0 stands) (later_stands 0 l0 stands) links xs q owner (last_act ∷ rest) old new here p.holder p.there
+          (node_chain 0 l0 stands q nodes way)
+          (subst (λ starts. AreOf T fs node inode top few tree starts xs) (node_starts_are node inode nodes) of') news
+          (λ o next. elim (next_in 0 l0 stands nodes o next) [
+            | inl none ↦ ap (pointed (readable old fs) owner) none.1 ∙ p.first_zero none.0
+            | inr one ↦ p.next_zero o one.0 one.1
+          ])
+          (subst (λ acts. Ran T fs (acts ++ last_act ∷ rest) old new (Ok tt)) (node_acts_are node inode owner nodes (blocks_in xs)) ran) in
+          elim c.ran [
+            | inl none ↦ absurd none
+            | inr r ↦
+                let s1 = r.1 in
+                let edit = edit_is T fs last_act c.middle s1 r.0 c.here.store refl r.2 in
+                let q' : List ℕ = onto q nodes in
+                let holder = last_or_owner owner (blocks_in xs) in
+                let holder_is : holder ≡ block_at (readable c.middle fs) top q' = c.last ∙ ap (block_at (readable c.middle fs) top) (node_reached node inode q nodes) in
+                let y' = c.keeps y new_y others in
+                let none = c.zero l0 refl in
+                record {
+                  middle = s1;
+                  tabled = numbered_here T fs node inode top few tree known c.middle s1 c.here n number n_few l0 q' p.steps_are holder holder_is c.there none y y' y_type (Some y.block) edit
+                      fields head y_bytes range short size k kind_is empty;
+                  ran = r.3;
+                  was = ap (λ f. f n) (sym c.files)
+                      ∙ numbered_was T fs node inode top few tree known c.middle s1 c.here n number n_few l0 q' p.steps_are holder holder_is c.there none y y' y_type (Some y.block) edit
+                      fields head y_bytes range short size k kind_is empty;
+                  files = numbered_files T fs node inode top few tree known c.middle s1 c.here n number n_few l0 q' p.steps_are holder holder_is c.there none y y' y_type (Some y.block) edit
+                      fields head y_bytes range short size k kind_is empty
+                      ∙ ap (λ f. with_inode f n (Some (inode_with fields (new_content k fields.parent head)))) c.files;
+                  keeps = λ x is apart ne.
+                      numbered_keeps T fs node inode top few tree known c.middle s1 c.here n number n_few l0 q' p.steps_are holder holder_is c.there none y y' y_type (Some y.block) edit
+                      fields head y_bytes range short size k kind_is empty x (c.keeps x is apart) ne;
+                  inodes = inodes_then (readable old fs) (readable c.middle fs) (readable s1 fs) top (c.inodes refl)
+                      (numbered_inodes T fs node inode top few tree known c.middle s1 c.here n number n_few l0 q' p.steps_are holder holder_is c.there none y y' y_type (Some y.block) edit
+                      fields head y_bytes range short size k kind_is empty);
+                }
+          ]
+
+      pub tabled_so : Ran T fs (acts_by nodes_of (slice_index path (missing - 1))) old new (Ok tt) → IsTabled xs y rest new
+      tabled_so ran =
+          let found = path_to (readable old fs) (readable plan fs) top here.volume.root ways (n - 1) n_few free in
+          let l0 = found.0 in
+          let nodes = found.2 in
+          let p = found.3 in
+          let count : missing - 1 ≡ length nodes = (let e = p.long in omega arith) in
+          let nodes_are : nodes_of ≡ nodes = (λ j. take (count j) (p.path j)) ∙ take_at nodes (l0 ∷ []) (length nodes) refl in
+          let last_is : slice_index path (missing - 1) ≡ l0 = (λ j. slice_index (p.path j) (count j)) ∙ get_or_at nodes l0 [] 0 (length nodes) refl in
+          tabled_by l0 found.1 nodes p (subst (λ os. AreOf T fs node inode top few tree (node_starts node inode os) xs) nodes_are of)
+          (subst (λ acts. Ran T fs acts old new (Ok tt)) (λ j. acts_by (nodes_are j) (last_is j)) ran)
+
+  -- A leaf of an inode, which is no inode of the table
+
+  module _ (old plan : StoreState) (here : IsHere old) (d c : ℕ) (d_some : d ≢ 0) (c_some : c ≢ 0) (block : block_numbered (readable old fs) top d ≡ c)
+      (ways : (l : ℕ) (os : List ℕ) → IsWay os l → block_at (readable old fs) c os ≡ block_at (readable plan fs) c os)
+      (leaf : ℕ) (leaf_few : leaf < leaf_count) (free : leaf_block (readable plan fs) c leaf ≡ 0) where
+    abbrev None' : ℕ → Type 0
+    None' o = ⊥
+
+    pub none_stands : (o : ℕ) → None' o → (4 ≤ o) × (o + 4 ≤ 512) × (o % 4 ≡ 0)
+    none_stands o none = absurd none
+
+    abbrev leaf_missing : ℕ
+    leaf_missing = (reach (readable plan fs) c (steps leaf)).missing
+
+    abbrev leaf_owner : ℕ
+    leaf_owner = (reach (readable plan fs) c (steps leaf)).block
+
+    leaf_chain : (q os : List ℕ) → IsWay (onto q os) 0 → IsChain T fs node inode top few tree known d None' none_stands q (path_links node os)
+    leaf_chain q [] way = tt
+    leaf_chain q (o ∷ []) way = (0, way, (λ j e. absurd (omega (arith, e))), (λ e. (d_some, refl, refl)), tt)
+    leaf_chain q (o ∷ p ∷ os) way =
+        let first = way_first o 0 q (p ∷ os) way in
+        let height : first.0 ≡ 0 + length (p ∷ os) = first.2 in
+        (first.0, first.1, (λ j e. refl), (λ e. absurd (omega (arith, e))), leaf_chain (o ∷ q) (p ∷ os) way)
+
+    pub record IsLeafed (xs : List New) (rest : List Act) (new : StoreState) : Type 0 where
+      pub middle : StoreState
+      pub leafed : IsHere middle
+      pub ran : Ran T fs rest middle new (Ok tt)
+      pub files : files_of (readable middle fs) top ≡ files_of (readable old fs) top
+      pub names : KeepsNames (readable old fs) (readable middle fs) top d
+      pub last : last_or_owner leaf_owner (blocks_in xs) ≡ leaf_block (readable middle fs) c leaf
+      pub there : last_or_owner leaf_owner (blocks_in xs) ≢ 0
+      pub last_is : slice_index (blocks_in xs) (length (blocks_in xs) - 1) ≡ last_or_owner leaf_owner (blocks_in xs)
+      pub zeros_are : readable middle fs (last_or_owner leaf_owner (blocks_in xs)) ≡ zeros 512
+
+    module _ (xs : List New) (of : AreOf T fs node inode top few tree (path_starts node (missing_path leaf leaf_missing)) xs)
+        (news : AreNew node inode (kinds old fs) (readable old fs) top xs) (rest : List Act) (new : StoreState) where
+      last_zeros : (os : List ℕ) (l0 : ℕ) (xs : List New) (bytes : List ℕ) → AreOf T fs node inode top few tree (chain_starts (path_links node (os ++ l0 ∷ []))) xs →
+          last_bytes bytes xs ≡ zeros 512
+      last_zeros [] l0 [] bytes of = absurd of
+      last_zeros [] l0 (x ∷ []) bytes of = of.1
+      last_zeros [] l0 (x ∷ z ∷ xs) bytes of = absurd of.2
+      last_zeros (o ∷ os) l0 [] bytes of = absurd of
+      last_zeros (o ∷ os) l0 (x ∷ xs) bytes of = last_zeros os l0 xs x.bytes of.2
+
+      -- the last of some blocks
+      last_of : (owner b : ℕ) (bs : List ℕ) → slice_index (b ∷ bs) (length (b ∷ bs) - 1) ≡ last_or_owner owner (b ∷ bs)
+      last_of owner b [] = refl
+      last_of owner b (b' ∷ bs) =
+          let back : length (b ∷ b' ∷ bs) - 1 ≡ suc (length (b' ∷ bs) - 1) = omega arith in
+          ap (slice_index (b ∷ b' ∷ bs)) back ∙ last_of b b' bs
+
+      last_block_is : (os : List ℕ) (l0 : ℕ) (xs : List New) (owner : ℕ) → AreOf T fs node inode top few tree (chain_starts (path_links node (os ++ l0 ∷ []))) xs →
+          slice_index (blocks_in xs) (length (blocks_in xs) - 1) ≡ last_or_owner owner (blocks_in xs)
+      last_block_is os l0 (x ∷ xs) holder of = last_of holder x.block (blocks_in xs)
+      last_block_is [] l0 [] _ of = absurd of
+      last_block_is (o ∷ os) l0 [] _ of = absurd of
+
+      leafed_by : (l0 : ℕ) (q nodes : List ℕ) → IsPathTo (readable old fs) (readable plan fs) c c_some ways leaf leaf_few free l0 q nodes →
+          AreOf T fs node inode top few tree (path_starts node (nodes ++ l0 ∷ [])) xs →
+          Ran T fs (path_acts node leaf_owner (nodes ++ l0 ∷ []) (blocks_in xs) ++ rest) old new (Ok tt) → IsLeafed xs rest new
+      leafed_by l0 q nodes p of' ran =
+          let all = nodes ++ l0 ∷ [] in
+          let onto_all : onto q all ≡ steps leaf = onto_last q nodes l0 ∙ sym p.steps_are in
+          let links = path_links node all in
+          let of_links = subst (λ starts. AreOf T fs node inode top few tree starts xs) (path_starts_are node all) of' in
+          let ch = chained T fs node inode top few tree known d None' none_stands links xs q leaf_owner rest old new here
+          (p.holder ∙ ap (λ b. block_at (readable old fs) b q) (sym block)) p.there
+          (leaf_chain q all (subst (λ os. IsWay os 0) (sym onto_all) (steps_way leaf))) of_links news
+          (λ o next. first_zero q nodes l0 p o next)
+          (subst (λ acts. Ran T fs (acts ++ rest) old new (Ok tt)) (path_acts_are node leaf_owner all (blocks_in xs)) ran) in
+          let names = ch.names d d_some (λ z. c_some (sym block ∙ z)) in
+          record {
+            middle = ch.middle;
+            leafed = ch.here;
+            ran = ch.ran;
+            files = ch.files;
+            names = names;
+            last = ch.last ∙ ((λ j. block_at (readable ch.middle fs) ((names.block ∙ block) j) (reached q links))
+                ∙ ap (block_at (readable ch.middle fs) c) (path_reached node q all ∙ onto_all));
+            there = ch.there;
+            last_is = last_block_is nodes l0 xs leaf_owner of_links;
+            zeros_are = ch.said ∙ last_zeros nodes l0 xs (readable old fs leaf_owner) of_links;
+          }
+        where
+          onto_last : (q nodes : List ℕ) (l0 : ℕ) → onto q (nodes ++ l0 ∷ []) ≡ l0 ∷ onto q nodes
+          onto_last q [] l0 = refl
+          onto_last q (o ∷ nodes) l0 = onto_last (o ∷ q) nodes l0
+
+          first_zero : (q nodes : List ℕ) (l0 : ℕ) → IsPathTo (readable old fs) (readable plan fs) c c_some ways leaf leaf_few free l0 q nodes → (o : ℕ) →
+              IsNext T fs node inode top few tree known d None' none_stands (path_links node (nodes ++ l0 ∷ [])) o → pointed (readable old fs) leaf_owner o ≡ 0
+          first_zero q [] l0 p o next = ap (pointed (readable old fs) leaf_owner) next ∙ p.first_zero refl
+          first_zero q (x ∷ nodes) l0 p o next = ap (pointed (readable old fs) leaf_owner) next ∙ p.next_zero x nodes refl
+
+      pub leafed_so : Ran T fs (path_acts node leaf_owner (missing_path leaf leaf_missing) (blocks_in xs) ++ rest) old new (Ok tt) → IsLeafed xs rest new
+      leafed_so ran =
+          let found = path_to (readable old fs) (readable plan fs) c c_some ways leaf leaf_few free in
+          let p = found.3 in
+          leafed_by found.0 found.1 found.2 p (subst (λ os. AreOf T fs node inode top few tree (path_starts node os) xs) p.path of)
+          (subst (λ os. Ran T fs (path_acts node leaf_owner os (blocks_in xs) ++ rest) old new (Ok tt)) p.path ran)
