@@ -9,3 +9,13 @@ mod Removed
 mod LookUps
 mod Timed
 mod Attributed
+mod NewPlaces
+mod NewPlanned
+mod Begun
+mod InDirectory
+mod Named
+mod There
+mod Created
+mod Made
+mod Linked
+mod ReadBack

@@ -124,7 +124,7 @@ module _ (n : ℕ) (times else_times : Times) where
       later rest (inr not_m) =
           read_behind x (without_touched xs n) m else_times not_m ∙ (rest ∙ sym (read_behind x xs m else_times not_m))
 
-  not_there : (touched : List Touched) → All (λ other. other.number ≢ n) touched → touched_times touched n else_times ≡ else_times
+  pub not_there : (touched : List Touched) → All (λ other. other.number ≢ n) touched → touched_times touched n else_times ≡ else_times
   not_there [] lacks = refl
   not_there (x ∷ xs) lacks =
       read_behind x xs n else_times (all_here (λ other. other.number ≢ n) x xs lacks) ∙ not_there xs (all_behind (λ other. other.number ≢ n) x xs lacks)

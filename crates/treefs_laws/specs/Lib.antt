@@ -1,3 +1,6 @@
 pub mod Seen
 pub mod Kept
+pub mod Open
+pub mod Making
+pub mod Reading
 pub mod Setting

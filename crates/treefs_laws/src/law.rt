@@ -1,19 +1,29 @@
 // Laws of calls.
 
-ghost use Rattle.std.specs.Prelude.{◌≡◌, ℕ, ℤ, FitsSigned, List, Ok, true};
+ghost use Rattle.std.specs.Prelude.{◌≡◌, ◌<◌, ◌≤◌, ℕ, ℤ, All, FitsSigned, List, None, Ok, Result, [], drop, length, take, true};
 ghost use Rattle.std.specs.Int.{w64};
 ghost use Rattle.xn_model.specs.Types.{Types};
 ghost use Rattle.xn_model.specs.Lives.{StoreState};
-ghost use Rattle.treefs_model.specs.Changes.{removed, unlinked, with_mtime};
-ghost use Rattle.treefs_model.specs.Files.{and_then, changed_at, found, number_in};
+ghost use Rattle.treefs_model.specs.Changes.{linked, read, removed, target, unlinked, with_mtime};
+ghost use Rattle.treefs_model.specs.Files.{Directory, File, SymbolicLink, and_then, changed_at, found, number_in};
+ghost use Rattle.treefs_model.specs.declared.fault.Fault.{Fault};
+ghost use Rattle.treefs_lookup.specs.Bytes.{read_count, read_into};
+ghost use Rattle.treefs_lookup.specs.Inodes.{file_found, link_found};
 ghost use Rattle.treefs_lookup.specs.Readable.{readable};
+ghost use Rattle.treefs_lookup.specs.declared.inodes.Found.{Found};
+ghost use Rattle.treefs.specs.Creating.{CreateDoes, MkdirDoes, SymlinkDoes};
+ghost use Rattle.treefs.specs.Linking.{LinkDoes};
 ghost use Rattle.treefs.specs.Reads.{lookup_of, stat_of};
 ghost use Rattle.treefs.specs.Setting.{AttributesDoes, MtimeDoes};
 ghost use Rattle.treefs.specs.Unlinking.{RmdirDoes, UnlinkDoes};
+ghost use Rattle.treefs.specs.declared.attributes.Attributes.{Attributes as NewAttributes};
 ghost use Rattle.treefs.specs.declared.volume.Volume.{Volume};
 ghost use Rattle.treefs_values.specs.Values.{found_value};
 ghost use Rattle.treefs_byte_plans.specs.declared.attributes.Attributes.{Attributes};
 ghost use Rattle.treefs_laws.specs.Kept.{HasNoNames, IsKept, files_in};
+ghost use Rattle.treefs_laws.specs.Making.{FitsAttributes, MakesInode, new_inode};
+ghost use Rattle.treefs_laws.specs.Open.{IsOpen};
+ghost use Rattle.treefs_laws.specs.Reading.{HasFewBytes, read_bytes};
 ghost use Rattle.treefs_laws.specs.Setting.{AreInWidth, with_attributes};
 
 use treefs_format::law::modes_are_read_back;
@@ -25,6 +35,20 @@ pub fn look_ups_answer_the_files()
         lookup_of (readable state volume.tree.fs.number) volume.tree.top d name ≡ number_in (files_in state volume) d name }
     ensures inodes { (state : StoreState) (volume : Volume) (n : ℕ) → let content = readable state volume.tree.fs.number in
         and_then (stat_of content volume.tree.top volume.memory n) (λ x. Ok (found_value content volume.tree.top x)) ≡ found (files_in state volume) n }
+{}
+
+/// Reads of a file or a symbolic link answer its bytes, as the files say them, and each fault in its order; what they were given behind these stays.
+pub fn reads_answer_the_files()
+    ensures files { (state : StoreState) (volume : Volume) (n at : ℕ) (old : List ℕ) → HasFewBytes (files_in state volume) n →
+        let content = readable state volume.tree.fs.number in
+        read_bytes content (file_found content volume.tree.top n) at old ≡ read (files_in state volume) n at (length old) }
+    ensures links { (state : StoreState) (volume : Volume) (n at : ℕ) (old : List ℕ) → HasFewBytes (files_in state volume) n →
+        let content = readable state volume.tree.fs.number in
+        read_bytes content (link_found content volume.tree.top n) at old
+        ≡ and_then (target (files_in state volume) n) (λ bytes. Ok (take (length old) (drop at bytes))) }
+    ensures rest { (content : ℕ → List ℕ) (file : Result Found Fault) (at : ℕ) (old : List ℕ) →
+        and_then (read_count file at (length old)) (λ count. Ok (drop count (read_into content file at old)))
+        ≡ and_then (read_count file at (length old)) (λ count. Ok (drop count old)) }
 {}
 
 /// `set_mtime` sets when the content of an inode changed, and does nothing else.
@@ -60,6 +84,49 @@ pub fn rmdir_ends_an_empty_directory()
         RmdirDoes T state state' volume volume' d name (Ok tt) →
         IsKept T state' volume' × (n : ℕ) × (number_in (files_in state volume) d name ≡ Ok n) × HasNoNames (files_in state volume) n
         × (removed (files_in state volume) volume.memory.clock d name true ≡ Ok (files_in state' volume')) }
+{
+    layout_is_known();
+}
+
+/// `create` makes an empty file with the attributes that are told and one link, under a number and a name that were free, and does nothing else.
+pub fn create_makes_a_file()
+    ensures { (T : Types) (state state' : StoreState) (volume volume' : Volume) (d : ℕ) (name : List ℕ) (attributes : NewAttributes) (n : ℕ) →
+        IsOpen T state volume → FitsAttributes attributes → All (λ b. b < 256) name →
+        CreateDoes T state state' volume volume' d name attributes (Ok n) →
+        IsOpen T state' volume' × MakesInode state state' volume volume' d name n (new_inode volume.memory.clock attributes (File [])) }
+{
+    layout_is_known();
+    modes_are_read_back();
+}
+
+/// `symlink` makes a symbolic link to a target that stands in the inode, and does nothing else.
+pub fn symlink_makes_a_link()
+    ensures { (T : Types) (state state' : StoreState) (volume volume' : Volume) (d : ℕ) (name : List ℕ) (attributes : NewAttributes) (target : List ℕ)
+        (n : ℕ) → IsOpen T state volume → FitsAttributes attributes → All (λ b. b < 256) name → All (λ b. b < 256) target → length target ≤ 384 →
+        SymlinkDoes T state state' volume volume' d name attributes target (Ok n) →
+        IsOpen T state' volume' × MakesInode state state' volume volume' d name n (new_inode volume.memory.clock attributes (SymbolicLink target)) }
+{
+    layout_is_known();
+    modes_are_read_back();
+}
+
+/// `mkdir` makes a directory without a name, which stands in the one that has its name, and does nothing else.
+pub fn mkdir_makes_a_directory()
+    ensures { (T : Types) (state state' : StoreState) (volume volume' : Volume) (d : ℕ) (name : List ℕ) (attributes : NewAttributes) (n : ℕ) →
+        IsOpen T state volume → FitsAttributes attributes → All (λ b. b < 256) name →
+        MkdirDoes T state state' volume volume' d name attributes (Ok n) →
+        IsOpen T state' volume'
+        × MakesInode state state' volume volume' d name n (new_inode volume.memory.clock attributes (Directory d (λ x. None))) }
+{
+    layout_is_known();
+    modes_are_read_back();
+}
+
+/// `link` makes one more name of a file or a symbolic link that has a link, which was free, and does nothing else: the inode has a link more.
+pub fn link_makes_a_name()
+    ensures { (T : Types) (state state' : StoreState) (volume volume' : Volume) (n d : ℕ) (name : List ℕ) → IsOpen T state volume → All (λ b. b < 256) name →
+        LinkDoes T state state' volume volume' n d name (Ok tt) →
+        IsOpen T state' volume' × (linked (files_in state volume) volume.memory.clock n d name ≡ Ok (files_in state' volume')) }
 {
     layout_is_known();
 }

@@ -1,0 +1,256 @@
+-- What planners found of a new name.
+use Rattle.std.proofs.Common.{◌≡◌, ◌≢◌, ◌⊎◌, ℕ, ◌+◌, ◌-◌, ◌<◌, ◌≤◌, Bool, true, false, ◌&&◌, List, [], ◌∷◌, length, drop, Option, None, Some, Result, Ok, Err, refl, sym, ◌∙◌, ap, inl, inr, arith, subst, if◌then◌else◌}
+use Rattle.std.specs.Prelude.{Contains, IsTrue, MatchResult, ◌==◌}
+use Rattle.std.specs.List.{list_all}
+use Rattle.std.specs.Option.{ok_or}
+use Rattle.std.proofs.lemmas.Bool.{cases_eq, eq-eqb, ne_eqb}
+use Rattle.xn_model.specs.Lives.{StoreState}
+use Rattle.treefs_format.specs.Buckets.{room_without}
+use Rattle.treefs_format.specs.Candidates.{candidates, name_hash}
+use Rattle.treefs_format.specs.Names.{is_name}
+use Rattle.treefs_format.specs.Paths.{leaf_count, steps}
+use Rattle.treefs_format.specs.Records.{end_of}
+use Rattle.treefs_format.specs.Roots.{leaf_of_inode}
+use Rattle.treefs_model.specs.Files.{and_then}
+use Rattle.treefs_model.specs.Reading.{bucket_of, key_in, leaf_block}
+use Rattle.treefs_model.specs.declared.fault.Fault.{Fault}
+use Rattle.treefs_model.specs.declared.fault.Fault.TheVariants.{BadName, Exists, Full, NoEntry}
+use Rattle.treefs_lookup.specs.Buckets.{bucket_block, bucket_start}
+use Rattle.treefs_lookup.specs.Inodes.{directory_found, inode_found}
+use Rattle.treefs_lookup.specs.Names.{entry_found, named_in, place_of, slot_named}
+use Rattle.treefs_lookup.specs.Numbers.{IsNextNumber}
+use Rattle.treefs_lookup.specs.Readable.{readable}
+use Rattle.treefs_lookup.specs.Walks.{reach}
+use Rattle.treefs_lookup.specs.declared.inodes.Found.{Found}
+use Rattle.treefs_lookup.specs.declared.names.Slot.{Slot}
+use Rattle.treefs_lookup.specs.declared.places.NamePlace.{NamePlace}
+use Rattle.treefs_lookup.specs.declared.places.NamePlace.TheVariants as place
+use Rattle.treefs_edits.specs.Memories.{Memory}
+use Rattle.treefs_edits.specs.Rooms.{has_room, has_room_in}
+use Rattle.treefs_edits.specs.declared.tree.Tree.{Tree}
+use Rattle.treefs_name_plans.specs.Additions.{old_start}
+use Rattle.treefs_name_plans.specs.CommitPlans.{IsNumberFound, commit_in_room}
+use Rattle.treefs_name_plans.specs.Namings.{naming_parts}
+use Rattle.treefs_name_plans.specs.NewNames.{addition_at, addition_in, directory_for, free_name, if_free, if_taken, place_in, taken_in}
+use Rattle.treefs_name_plans.specs.NewPlans.{IsNewPlanned, free_in_room, new_in_room}
+use Rattle.treefs_name_plans.specs.declared.addition.Addition.{Addition}
+use Rattle.treefs_name_plans.specs.declared.addition.Addition.TheVariants.{Behind, Rewritten, Made}
+use Rattle.treefs_name_plans.specs.declared.addition.NewBucket.{NewBucket}
+use Rattle.treefs_name_plans.specs.declared.addition.OldBucket.{OldBucket}
+use Rattle.treefs_name_plans.specs.declared.commit_plan.CommitPlan.{CommitPlan}
+use Rattle.treefs_name_plans.specs.declared.naming.Naming.TheVariants.{Added}
+use Rattle.treefs_name_plans.specs.declared.new_plan.NewPlan.{NewPlan}
+use Rattle.treefs_values.proofs.ForCallers.{AreFree, IsFound, IsPlace, directory_is, in_leaf}
+use Rattle.treefs_laws.proofs.NewPlaces.{IsMissing, IsPlaceFor, IsRewritten, place_for}
+use Rattle.treefs_laws.proofs.Planned.{same_done, then_ok}
+
+-- A name that is free
+
+module _ (content : ℕ → List ℕ) (top d : ℕ) (name : List ℕ) where
+  pub record IsFreeName (block : ℕ) : Type 0 where
+    pub found : Found
+    pub found_is : directory_found content top d ≡ Ok found
+    pub block_is : found.block ≡ block
+    pub named : is_name name ≡ true
+    pub no_slot : slot_named content (key_in content top) block name ≡ None
+
+  pub free_so : (block : ℕ) → free_name content top d name ≡ Ok block → IsFreeName block
+  free_so block is =
+      let one = then_ok (directory_for content top d name) (λ (x : Found). and_then (taken_in content top d name) (if_free x.block)) block is in
+      let x : Found = one.0 in
+      let two = then_ok (directory_found content top d) (λ (y : Found). if is_name name then Ok y else Err BadName) x one.1 in
+      let three = then_ok (taken_in content top d name) (if_free x.block) block one.2 in
+      by two.0 two.1 x (is_name name) refl two.2 three.0 three.1 three.2
+    where
+      by : (y : Found) → directory_found content top d ≡ Ok y → (x : Found) → (t : Bool) → is_name name ≡ t →
+          ◌≡◌ {A = Result Found Fault} (if is_name name then Ok y else Err BadName) (Ok x) → (slot : Option Slot) → taken_in content top d name ≡ Ok slot →
+          if_free x.block slot ≡ Ok block → IsFreeName block
+      by y y_is x false h e slot taken free = absurd (cc (sym (ap (λ t. if t then Ok y else Err BadName) h) ∙ e))
+      by y y_is x true h e (Some slot) taken free = absurd (cc free)
+      by y y_is x true h e None taken free =
+          let same : y ≡ x = same_done y x (sym (ap (λ t. if t then Ok y else Err BadName) h) ∙ e) in
+          let block_is : y.block ≡ block = ap (λ (z : Found). z.block) same ∙ same_done x.block block free in
+          record {
+            found = y;
+            found_is = y_is;
+            block_is = block_is;
+            named = h;
+            no_slot = subst (λ b. slot_named content (key_in content top) b name ≡ None) block_is (no_slot y y_is h taken);
+          }
+        where
+          no_slot : (y : Found) → directory_found content top d ≡ Ok y → is_name name ≡ true → taken_in content top d name ≡ Ok None →
+              slot_named content (key_in content top) y.block name ≡ None
+          no_slot y y_is h taken = of (slot_named content (key_in content top) y.block name) refl
+              (sym (ap if_taken (ap (λ r. and_then r (λ (z : Found). named_in content (key_in content top) name z.block)) y_is
+              ∙ ap (λ t. if t then ok_or (slot_named content (key_in content top) y.block name) NoEntry else Err BadName) h)) ∙ taken)
+            where
+              of : (o : Option Slot) → slot_named content (key_in content top) y.block name ≡ o →
+                  if_taken (ok_or (slot_named content (key_in content top) y.block name) NoEntry) ≡ Ok None → slot_named content (key_in content top) y.block name ≡ None
+              of None g e = g
+              of (Some slot) g e = absurd (cc (sym (ap (λ o. if_taken (ok_or o NoEntry)) g) ∙ e))
+
+-- Where its record goes
+
+module _ (content : ℕ → List ℕ) (key : List ℕ) (node c : ℕ) (name : List ℕ) where
+  pub record IsToRewrite (old : OldBucket) : Type 0 where
+    pub bucket : ℕ
+    pub candidate : Contains (candidates (name_hash key name)) bucket
+    pub block_is : old.block ≡ bucket_block content c bucket
+    pub start_is : old_start old ≡ bucket_start bucket
+    pub bytes_are : drop (old_start old) old.bytes ≡ bucket_of content c bucket
+    pub offset_is : old.offset ≡ bucket_start bucket + (length (bucket_of content c bucket) - room_without (bucket_of content c bucket))
+    pub full : 0 < end_of (bucket_of content c bucket)
+    pub fits : 5 + length name ≤ room_without (bucket_of content c bucket)
+    pub none : AreFree content key c name
+
+  pub record IsToMake (made : NewBucket) : Type 0 where
+    pub candidate : Contains (candidates (name_hash key name)) (made.leaf + 1)
+    pub few : made.leaf < leaf_count
+    pub free : leaf_block content c made.leaf ≡ 0
+    pub owner_is : made.owner ≡ (reach content c (steps made.leaf)).block
+    pub missing_is : made.missing ≡ (reach content c (steps made.leaf)).missing
+    pub node_is : made.node_type ≡ node
+    pub none : AreFree content key c name
+
+  abbrev pub IsAddition : Addition → Type 0
+  IsAddition (Behind block offset) = IsPlace content key c name block offset
+  IsAddition (Rewritten old) = IsToRewrite old
+  IsAddition (Made made) = IsToMake made
+
+module _ (state : StoreState) (tree : Tree) (d c : ℕ) (name : List ℕ) (c_some : c ≢ 0)
+    (few_of : (k : ℕ) → Contains (candidates (name_hash (key_in (readable state tree.fs.number) tree.top) name)) k → k ≤ leaf_count) where
+  abbrev bytes : ℕ → List ℕ
+  bytes = readable state tree.fs.number
+
+  abbrev key : List ℕ
+  key = key_in bytes tree.top
+
+  addition_so : (p : NamePlace) → IsPlaceFor state tree.fs.number key c name c_some p → IsAddition bytes key tree.node_type c name (addition_at bytes tree.node_type c p)
+  addition_so (place.DeadRecord block offset) is = is
+  addition_so (place.Behind block offset) is = is
+  addition_so (place.Rewritten block start offset) is = elim (cases_eq is.bucket 0) [
+    | inl z ↦
+        let start_is : start ≡ 128 = is.start_is ∙ ap bucket_start z in
+        let block_is : block ≡ c = is.block_is ∙ ap (λ t. if t then c else leaf_block bytes c (is.bucket - 1)) (eq-eqb is.bucket 0 z) in
+        let in_inode : (if start == 128 then 128 else 0) ≡ 128 = ap (λ t. if t then 128 else 0) (eq-eqb start 128 start_is) in
+        record {
+          bucket = is.bucket;
+          candidate = is.candidate;
+          block_is = is.block_is;
+          start_is = in_inode ∙ sym (ap bucket_start z);
+          bytes_are = (λ j. drop (in_inode j) (bytes (block_is j))) ∙ sym (ap (bucket_of bytes c) z);
+          offset_is = is.offset_is;
+          full = is.full;
+          fits = is.fits;
+          none = is.none;
+        }
+    | inr other ↦
+        let zero_start : bucket_start is.bucket ≡ 0 = ap (λ t. if t then 128 else 0) (ne_eqb is.bucket 0 other) in
+        let start_is : start ≡ 0 = is.start_is ∙ zero_start in
+        let in_inode : (if start == 128 then 128 else 0) ≡ 0 = ap (λ t. if t then 128 else 0) (ne_eqb start 128 (λ e. absurd (omega (arith, e, start_is)))) in
+        let leaf_is : bucket_block bytes c is.bucket ≡ leaf_block bytes c (is.bucket - 1) = ap (λ t. if t then c else leaf_block bytes c (is.bucket - 1)) (ne_eqb is.bucket 0 other) in
+        let bucket_is : bucket_of bytes c is.bucket ≡ bytes (leaf_block bytes c (is.bucket - 1)) =
+        in_leaf bytes c is.bucket other ∙ ap (λ t. if t then [] else bytes (leaf_block bytes c (is.bucket - 1))) (ne_eqb (leaf_block bytes c (is.bucket - 1)) 0 (λ z. is.there (leaf_is ∙ z))) in
+        record {
+          bucket = is.bucket;
+          candidate = is.candidate;
+          block_is = is.block_is;
+          start_is = in_inode ∙ sym zero_start;
+          bytes_are = (λ j. drop (in_inode j) (bytes ((is.block_is ∙ leaf_is) j))) ∙ sym bucket_is;
+          offset_is = is.offset_is;
+          full = is.full;
+          fits = is.fits;
+          none = is.none;
+        }
+  ]
+  addition_so (place.NewBucket bucket) is =
+      let few = few_of bucket is.candidate in
+      let same : bucket - 1 + 1 ≡ bucket = (let some = is.some in omega arith) in
+      record {
+        candidate = subst (λ k. Contains (candidates (name_hash key name)) k) (sym same) is.candidate;
+        few = (let some = is.some in omega arith);
+        free = is.missing;
+        owner_is = refl;
+        missing_is = refl;
+        node_is = refl;
+        none = is.none;
+      }
+
+  pub addition_is : IsFreeName bytes tree.top d name c → (addition : Addition) → addition_in state tree d c name ≡ Ok addition → IsAddition bytes key tree.node_type c name addition
+  addition_is free addition is =
+      let one = then_ok (place_in state tree.fs.number tree.top d name) (λ p. Ok (addition_at bytes tree.node_type c p)) addition is in
+      let two = then_ok (directory_found bytes tree.top d) (λ (x : Found). place_of state tree.fs.number key x.block name) one.0 one.1 in
+      let same : two.0 ≡ free.found = same_done two.0 free.found (sym two.1 ∙ free.found_is) in
+      let placed : place_of state tree.fs.number key c name ≡ Ok one.0 =
+      ap (λ b. place_of state tree.fs.number key b name) (sym (ap (λ (x : Found). x.block) same ∙ free.block_is)) ∙ two.2 in
+      subst (IsAddition bytes key tree.node_type c name) (same_done (addition_at bytes tree.node_type c one.0) addition one.2)
+      (addition_so one.0 (place_for state tree.fs.number key c name c_some free.no_slot one.0 placed))
+
+-- What is planned
+
+module _ (state : StoreState) (tree : Tree) (memory : Memory) (d : ℕ) (name inode : List ℕ) where
+  abbrev contents : ℕ → List ℕ
+  contents = readable state tree.fs.number
+
+  abbrev pub commit_of : ℕ → ℕ → Addition → CommitPlan
+  commit_of n directory addition = record {
+    number = n;
+    directory = directory;
+    node_type = tree.node_type;
+    inode_type = tree.inode_type;
+    owner = (reach contents tree.top (steps (leaf_of_inode n))).block;
+    missing = (reach contents tree.top (steps (leaf_of_inode n))).missing;
+    naming = Added addition;
+  }
+
+  pub record IsNewPlan (plan : NewPlan) : Type 0 where
+    pub directory : ℕ
+    pub free : IsFreeName contents tree.top d name directory
+    pub n : ℕ
+    pub next : IsNextNumber state tree.fs.number tree.top memory.hint n
+    pub addition : Addition
+    pub addition_found : addition_in state tree d directory name ≡ Ok addition
+    pub plan_is : plan ≡ record { inode = inode; commit = commit_of n directory addition }
+
+  in_room : (edits n directory : ℕ) (addition : Addition) (commit : CommitPlan) → commit_in_room state tree memory edits n directory (Added addition) ≡ Ok commit →
+      commit ≡ commit_of n directory addition
+  in_room edits n directory addition commit is =
+      by (has_room state tree.fs.number (length memory.touched) edits (naming_parts (Added addition) directory)
+      && list_all (has_room_in state) (((reach contents tree.top (steps (leaf_of_inode n))).block, 2) ∷ [])) is
+    where
+      by : (t : Bool) → ◌≡◌ {A = Result CommitPlan Fault} (if t then Ok (commit_of n directory addition) else Err Full) (Ok commit) → commit ≡ commit_of n directory addition
+      by true e = sym (same_done (commit_of n directory addition) commit e)
+      by false e = absurd (cc e)
+
+  pub new_planned : (plan : NewPlan) → IsNewPlanned state tree memory d name inode (Ok plan) → IsNewPlan plan
+  new_planned plan planned = by (free_in_room state tree memory d name) refl planned
+    where
+      free_of : (directory : ℕ) → free_in_room state tree memory d name ≡ Ok directory → IsFreeName contents tree.top d name directory
+      free_of directory is =
+          let one = then_ok (free_name contents tree.top d name) (λ b. if has_room state tree.fs.number (length memory.touched) 2 [] then Ok b else Err Full) directory is in
+          roomy one.0 (has_room state tree.fs.number (length memory.touched) 2 []) (free_so contents tree.top d name one.0 one.1) one.2
+        where
+          roomy : (b : ℕ) (t : Bool) → IsFreeName contents tree.top d name b → ◌≡◌ {A = Result ℕ Fault} (if t then Ok b else Err Full) (Ok directory) →
+              IsFreeName contents tree.top d name directory
+          roomy b true free e = subst (IsFreeName contents tree.top d name) (same_done b directory e) free
+          roomy b false free e = absurd (cc e)
+
+      by : (r : Result ℕ Fault) → free_in_room state tree memory d name ≡ r →
+          MatchResult r (λ directory. (number : Result ℕ Fault) × IsNumberFound state tree memory number
+          × (◌≡◌ {A = Result NewPlan Fault} (Ok plan) (and_then number (λ n. and_then (addition_in state tree d directory name) (new_in_room state tree memory n directory inode)))))
+          (λ fault. ◌≡◌ {A = Result NewPlan Fault} (Ok plan) (Err fault)) → IsNewPlan plan
+      by (Err fault) is e = absurd (cc e)
+      by (Ok directory) is (Err fault, number, e) = absurd (cc e)
+      by (Ok directory) is (Ok n, number, e) =
+          let one = then_ok (addition_in state tree d directory name) (new_in_room state tree memory n directory inode) plan (sym e) in
+          let two = then_ok (commit_in_room state tree memory 31 n directory (Added one.0)) (λ commit. Ok (record { inode = inode; commit = commit })) plan one.2 in
+          record {
+            directory = directory;
+            free = free_of directory is;
+            n = n;
+            next = number;
+            addition = one.0;
+            addition_found = one.1;
+            plan_is = sym (same_done (record { inode = inode; commit = two.0 }) plan two.2)
+                ∙ ap (λ (c : CommitPlan). record { inode = inode; commit = c }) (in_room 31 n directory one.0 two.0 two.1);
+          }
