@@ -19,3 +19,6 @@ mod Created
 mod Made
 mod Linked
 mod ReadBack
+mod StillOpen
+mod Beginning
+mod Listing

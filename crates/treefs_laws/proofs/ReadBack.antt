@@ -61,13 +61,13 @@ module _ (state : StoreState) (volume : Volume) (n at : ℕ) (old : List ℕ) wh
   most = length old
 
   -- an inode that is found, with its newest times
-  abbrev value_of : Found → Inode
+  abbrev pub value_of : Found → Inode
   value_of x = found_value content top (with_times x (touched_times volume.memory.touched n (times_of x.fields)))
 
   abbrev told_by : Result Found Fault → Result Inode Fault
   told_by r = and_then (and_then r (λ x. Ok (with_times x (touched_times volume.memory.touched n (times_of x.fields))))) (λ x. Ok (found_value content top x))
 
-  found_by : (r : Result Found Fault) → inode_found content top n ≡ r → found (files_in state volume) n ≡ told_by r
+  pub found_by : (r : Result Found Fault) → inode_found content top n ≡ r → found (files_in state volume) n ≡ told_by r
   found_by r e = sym (told state volume n) ∙ ap told_by e
 
   -- what a read answers of a file, and what stands in its buffer

@@ -1,17 +1,19 @@
 // Laws of calls.
 
-ghost use Rattle.std.specs.Prelude.{◌≡◌, ◌<◌, ◌≤◌, ℕ, ℤ, All, FitsSigned, List, None, Ok, Result, [], drop, length, take, true};
+ghost use Rattle.std.specs.Prelude.{◌≡◌, ◌<◌, ◌≤◌, ℕ, ℤ, All, FitsSigned, List, None, Some, Ok, Result, [], drop, length, take, true};
 ghost use Rattle.std.specs.Int.{w64};
 ghost use Rattle.xn_model.specs.Types.{Types};
 ghost use Rattle.xn_model.specs.Lives.{StoreState};
-ghost use Rattle.treefs_model.specs.Changes.{linked, read, removed, target, unlinked, with_mtime};
-ghost use Rattle.treefs_model.specs.Files.{Directory, File, SymbolicLink, and_then, changed_at, found, number_in};
+ghost use Rattle.treefs_format.specs.declared.kind.Kind.{Kind};
+ghost use Rattle.treefs_model.specs.Changes.{IsListing, linked, read, removed, target, unlinked, with_mtime};
+ghost use Rattle.treefs_model.specs.Files.{Directory, File, Inode, Names, SymbolicLink, and_then, changed_at, found, number_in};
 ghost use Rattle.treefs_model.specs.declared.fault.Fault.{Fault};
 ghost use Rattle.treefs_lookup.specs.Bytes.{read_count, read_into};
 ghost use Rattle.treefs_lookup.specs.Inodes.{file_found, link_found};
 ghost use Rattle.treefs_lookup.specs.Readable.{readable};
+ghost use Rattle.treefs_lookup.specs.declared.bucket.Bucket.{Bucket};
 ghost use Rattle.treefs_lookup.specs.declared.inodes.Found.{Found};
-ghost use Rattle.treefs.specs.Creating.{CreateDoes, MkdirDoes, SymlinkDoes};
+ghost use Rattle.treefs.specs.Creating.{BeginDoes, CreateDoes, MkdirDoes, SymlinkDoes};
 ghost use Rattle.treefs.specs.Linking.{LinkDoes};
 ghost use Rattle.treefs.specs.Reads.{lookup_of, stat_of};
 ghost use Rattle.treefs.specs.Setting.{AttributesDoes, MtimeDoes};
@@ -23,7 +25,7 @@ ghost use Rattle.treefs_byte_plans.specs.declared.attributes.Attributes.{Attribu
 ghost use Rattle.treefs_laws.specs.Kept.{HasNoNames, IsKept, files_in};
 ghost use Rattle.treefs_laws.specs.Making.{FitsAttributes, MakesInode, new_inode};
 ghost use Rattle.treefs_laws.specs.Open.{IsOpen};
-ghost use Rattle.treefs_laws.specs.Reading.{HasFewBytes, read_bytes};
+ghost use Rattle.treefs_laws.specs.Reading.{AreAnswered, HasFewBytes, listed_by, read_bytes};
 ghost use Rattle.treefs_laws.specs.Setting.{AreInWidth, with_attributes};
 
 use treefs_format::law::modes_are_read_back;
@@ -50,6 +52,15 @@ pub fn reads_answer_the_files()
         and_then (read_count file at (length old)) (λ count. Ok (drop count (read_into content file at old)))
         ≡ and_then (read_count file at (length old)) (λ count. Ok (drop count old)) }
 {}
+
+/// Buckets that `read_directory` answers one after another, from 0 on until there is none, list the names of a directory, each once, with their numbers.
+pub fn directories_are_listed()
+    ensures { (T : Types) (state : StoreState) (volume : Volume) (n parent : ℕ) (inode : Inode) (names : Names) (buckets : List Bucket) →
+        IsKept T state volume → files_in state volume n ≡ Some inode → inode.content ≡ Directory parent names →
+        AreAnswered state volume.tree n 0 buckets → IsListing names (listed_by buckets) }
+{
+    layout_is_known();
+}
 
 /// `set_mtime` sets when the content of an inode changed, and does nothing else.
 pub fn set_mtime_sets_a_time()
@@ -129,4 +140,30 @@ pub fn link_makes_a_name()
         IsOpen T state' volume' × (linked (files_in state volume) volume.memory.clock n d name ≡ Ok (files_in state' volume')) }
 {
     layout_is_known();
+}
+
+/// `begin` begins an inode that no name leads to, and changes no file.
+pub fn begin_changes_no_file()
+    ensures { (T : Types) (state state' : StoreState) (volume : Volume) (kind : Kind) (attributes : NewAttributes) (head : List ℕ) (block : ℕ) →
+        IsOpen T state volume → FitsAttributes attributes → All (λ b. b < 256) head → length head ≤ 384 →
+        BeginDoes T state state' volume kind attributes head (Ok block) →
+        IsOpen T state' volume × (files_in state' volume ≡ files_in state volume) }
+{
+    layout_is_known();
+    modes_are_read_back();
+}
+
+/// An open volume is one still once `set_mtime`, `set_attributes`, `unlink` or `rmdir` is done.
+pub fn open_volumes_stay_open()
+    ensures times { (T : Types) (state : StoreState) (volume volume' : Volume) (n : ℕ) (mtime : ℤ) → FitsSigned w64 mtime → IsOpen T state volume →
+        MtimeDoes state volume volume' n mtime (Ok tt) → IsOpen T state volume' }
+    ensures attributes { (T : Types) (state state' : StoreState) (volume volume' : Volume) (n : ℕ) (attributes : Attributes) → AreInWidth attributes →
+        IsOpen T state volume → AttributesDoes T state state' volume volume' n attributes (Ok tt) → IsOpen T state' volume' }
+    ensures unlink { (T : Types) (state state' : StoreState) (volume volume' : Volume) (d : ℕ) (name : List ℕ) → IsOpen T state volume →
+        UnlinkDoes T state state' volume volume' d name (Ok tt) → IsOpen T state' volume' }
+    ensures rmdir { (T : Types) (state state' : StoreState) (volume volume' : Volume) (d : ℕ) (name : List ℕ) → IsOpen T state volume →
+        RmdirDoes T state state' volume volume' d name (Ok tt) → IsOpen T state' volume' }
+{
+    layout_is_known();
+    modes_are_read_back();
 }

@@ -4,7 +4,9 @@
 pub use Rattle.treefs_values.proofs.Alike.{IsAlike, bucket_same, in_leaf}
 pub use Rattle.treefs_values.proofs.Entries.{same_bytes, same_eq}
 pub use Rattle.treefs_values.proofs.Elsewhere.{inode_numbered}
+pub use Rattle.treefs_values.proofs.Listed.{IsLiveEntry, has_of, live_leads, number_stands}
 pub use Rattle.treefs_values.proofs.Named.{candidates_few}
+pub use Rattle.treefs_values.proofs.Numbers.{among_numbers}
 pub use Rattle.treefs_values.proofs.Ways.{counted}
 pub use Rattle.treefs_values.proofs.FoundEntries.{IsEntry, IsFound, directory_is, entry_is, found_inode}
 pub use Rattle.treefs_values.proofs.LookUps.{inodes_found, numbers_found, numbers_named}

@@ -4,6 +4,7 @@ pub mod Alike
 pub mod Elsewhere
 pub mod Entries
 pub mod Numbers
+pub mod Listed
 pub mod Named
 pub mod Keeping
 pub mod Putting

@@ -28,14 +28,14 @@ among_numbers content c name (k ∷ buckets) = by (among_numbers content c name 
 -- Among some buckets
 
 -- the first number of a function of buckets
-abbrev first_of : (ℕ → Option ℕ) → List ℕ → Option ℕ
+abbrev pub first_of : (ℕ → Option ℕ) → List ℕ → Option ℕ
 first_of f [] = None
 first_of f (k ∷ buckets) = option_or (f k) (first_of f buckets)
 
-abbrev numbers_at : (ℕ → List ℕ) → ℕ → List ℕ → ℕ → Option ℕ
+abbrev pub numbers_at : (ℕ → List ℕ) → ℕ → List ℕ → ℕ → Option ℕ
 numbers_at content c name k = first_number (bucket_entries content c k) name
 
-in_first : (content : ℕ → List ℕ) (c : ℕ) (name buckets : List ℕ) → first_number_in content c name buckets ≡ first_of (numbers_at content c name) buckets
+pub in_first : (content : ℕ → List ℕ) (c : ℕ) (name buckets : List ℕ) → first_number_in content c name buckets ≡ first_of (numbers_at content c name) buckets
 in_first content c name [] = refl
 in_first content c name (k ∷ buckets) = ap (option_or (numbers_at content c name k)) (in_first content c name buckets)
 
@@ -50,7 +50,7 @@ none_first f (k ∷ buckets) none =
     ap (λ o. option_or o (first_of f buckets)) (none k (Contains-head k buckets)) ∙ none_first f buckets (λ i has. none i (Contains-tail k buckets i has))
 
 -- one bucket alone has a number
-only_first : (f : ℕ → Option ℕ) (k : ℕ) (v : Option ℕ) (buckets : List ℕ) → Contains buckets k → f k ≡ v → ((j : ℕ) → Contains buckets j → j ≢ k → f j ≡ None) →
+pub only_first : (f : ℕ → Option ℕ) (k : ℕ) (v : Option ℕ) (buckets : List ℕ) → Contains buckets k → f k ≡ v → ((j : ℕ) → Contains buckets j → j ≢ k → f j ≡ None) →
     first_of f buckets ≡ v
 only_first f k v [] has is others = absurd (Contains-none k has)
 only_first f k v (i ∷ buckets) has is others = elim (cases_eq i k) [

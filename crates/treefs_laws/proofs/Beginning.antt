@@ -1,0 +1,100 @@
+-- An inode is begun: the files are as before.
+use Rattle.std.proofs.Common.{◌≡◌, ◌≢◌, ℕ, ◌<◌, ◌≤◌, ◌^◌, Bool, true, false, List, [], ◌∷◌, length, Result, Ok, Err, refl, sym, ◌∙◌, ap, inr, arith, subst}
+use Rattle.std.specs.Prelude.{All, MatchBool, None}
+use Rattle.std.proofs.lemmas.List.Elements.{All-cons, All-nil, All-weaker}
+use Rattle.xn_model.specs.Types.{Types}
+use Rattle.xn_model.specs.Lives.{StoreState}
+use Rattle.treefs_format.specs.Fields.{AreInRange}
+use Rattle.treefs_format.specs.Inodes.{inode_bytes}
+use Rattle.treefs_format.specs.declared.fields.Fields.{Fields}
+use Rattle.treefs_format.specs.declared.kind.Kind.{Kind}
+use Rattle.treefs_model.specs.declared.fault.Fault.{Fault}
+use Rattle.treefs_model.specs.declared.fault.Fault.TheVariants.{Full}
+use Rattle.treefs_edits.specs.Rooms.{has_room}
+use Rattle.treefs_edits.specs.declared.memory.Touched.{Touched}
+use Rattle.treefs_edits.specs.declared.start.Start.{Start}
+use Rattle.treefs.specs.Committing.{BeginsOne}
+use Rattle.treefs.specs.Creating.{BeginDoes, new_fields}
+use Rattle.treefs.specs.declared.attributes.Attributes.{Attributes}
+use Rattle.treefs.specs.declared.volume.Volume.{Volume}
+use Rattle.treefs_values.specs.KnownLayout.{IsLayout}
+use Rattle.treefs_values.proofs.ForCallers.{AreBegun, IsAt, IsFineStart, begun_so}
+use Rattle.treefs_laws.specs.Kept.{IsKept, files_in}
+use Rattle.treefs_laws.specs.Making.{FitsAttributes}
+use Rattle.treefs_laws.specs.Open.{IsOpen}
+use Rattle.treefs_laws.specs.Seen.{seen_files}
+use Rattle.treefs_laws.proofs.Attributed.{AreModes}
+use Rattle.treefs_laws.proofs.Begun.{fine_inode}
+
+module _ (T : Types) (state state' : StoreState) (volume : Volume) (is_open : IsOpen T state volume) (known : IsLayout) (modes : AreModes) (k : Kind) (attributes : Attributes)
+    (fit : FitsAttributes attributes) (head : List ℕ) (wide : All (λ b. b < 256) head) (short : length head ≤ 384) where
+  abbrev fs : ℕ
+  fs = volume.tree.fs.number
+
+  abbrev top : ℕ
+  top = volume.tree.top
+
+  abbrev node : ℕ
+  node = volume.tree.node_type
+
+  abbrev inode : ℕ
+  inode = volume.tree.inode_type
+
+  abbrev fields : Fields
+  fields = new_fields volume.tree volume.memory k attributes 0 (length head)
+
+  abbrev start : Start
+  start = record { ty = inode; bytes = inode_bytes fields head }
+
+  kept : IsKept T state volume
+  kept = is_open.kept
+
+  in_range : AreInRange fields
+  in_range = record {
+    leaf_type = omega arith;
+    node_type = is_open.short.0;
+    mode = modes.short k attributes.permissions fit.permissions;
+    links = omega arith;
+    uid = fit.uid;
+    gid = fit.gid;
+    size = omega arith;
+    mtime = kept.session.clock;
+    ctime = kept.session.clock;
+    parent = omega arith;
+    generation = fit.generation;
+  }
+
+  abbrev Fine : Start → Type 0
+  Fine = IsFineStart T fs node inode top is_open.few is_open.tree
+
+  fine : All Fine (start ∷ [])
+  fine = All-cons Fine start [] (fine_inode T fs node inode top is_open.few is_open.tree known kept.bytes.types.0 kept.bytes.some_types is_open.short fields head in_range wide short) (All-nil Fine)
+
+  here : IsAt T fs node inode top state
+  here = record { store = kept.store; root = is_open.root; volume = kept.bytes }
+
+  abbrev Said : Type 0
+  Said = IsOpen T state' volume × (files_in state' volume ≡ files_in state volume)
+
+  by_begun : (blocks : List ℕ) → AreBegun T fs node inode top is_open.few is_open.tree (start ∷ []) [] blocks state state' → Said
+  by_begun blocks b =
+      let same : files_in state' volume ≡ files_in state volume = ap (seen_files volume.memory.touched) b.files in (
+        record {
+          kept = record { store = b.at.store; bytes = b.at.volume; session = kept.session };
+          few = is_open.few;
+          tree = is_open.tree;
+          short = is_open.short;
+          root = b.at.root;
+          touched = All-weaker (λ (touch : Touched). files_in state volume touch.number ≢ None) (λ touch. files_in state' volume touch.number ≢ None)
+              (λ touch some none. some (ap (λ f. f touch.number) (sym same) ∙ none)) volume.memory.touched is_open.touched;
+        },
+        same,
+      )
+
+  pub begun_no_file : (block : ℕ) → BeginDoes T state state' volume k attributes head (Ok block) → Said
+  begun_no_file block does = by (has_room state fs (length volume.memory.touched) 2 []) does
+    where
+      by : (t : Bool) → MatchBool t (BeginsOne T fs start state state' (Ok block)) ((◌≡◌ {A = Result ℕ Fault} (Ok block) (Err Full)) × (state' ≡ state)) → Said
+      by true (entry, begun) = by_begun (block ∷ []) (begun_so T fs node inode top is_open.few is_open.tree (start ∷ []) [] (block ∷ []) state state' fine here
+          (inr ((block, entry), state', begun, (refl, refl))))
+      by false full = absurd (cc full.0)
