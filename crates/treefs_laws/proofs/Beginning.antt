@@ -8,6 +8,9 @@ use Rattle.treefs_format.specs.Fields.{AreInRange}
 use Rattle.treefs_format.specs.Inodes.{inode_bytes}
 use Rattle.treefs_format.specs.declared.fields.Fields.{Fields}
 use Rattle.treefs_format.specs.declared.kind.Kind.{Kind}
+use Rattle.treefs_format.specs.declared.kind.Kind.TheVariants as kind
+use Rattle.treefs_model.specs.Reading.{inode_with}
+use Rattle.treefs_lookup.specs.Readable.{readable}
 use Rattle.treefs_model.specs.declared.fault.Fault.{Fault}
 use Rattle.treefs_model.specs.declared.fault.Fault.TheVariants.{Full}
 use Rattle.treefs_edits.specs.Rooms.{has_room}
@@ -17,10 +20,13 @@ use Rattle.treefs.specs.Committing.{BeginsOne}
 use Rattle.treefs.specs.Creating.{BeginDoes, new_fields}
 use Rattle.treefs.specs.declared.attributes.Attributes.{Attributes}
 use Rattle.treefs.specs.declared.volume.Volume.{Volume}
+use Rattle.treefs_values.specs.Attached.{new_content}
+use Rattle.treefs_values.specs.Kinds.{kinds}
 use Rattle.treefs_values.specs.KnownLayout.{IsLayout}
-use Rattle.treefs_values.proofs.ForCallers.{AreBegun, IsAt, IsFineStart, begun_so}
+use Rattle.treefs_values.proofs.ForCallers.{AreBegun, AreNew, AreOf, IsAt, IsFineStart, New, begun_so, blocks_in}
 use Rattle.treefs_laws.specs.Kept.{IsKept, files_in}
-use Rattle.treefs_laws.specs.Making.{FitsAttributes}
+use Rattle.treefs_laws.specs.Begun.{IsBegun}
+use Rattle.treefs_laws.specs.Making.{FitsAttributes, new_inode}
 use Rattle.treefs_laws.specs.Open.{IsOpen}
 use Rattle.treefs_laws.specs.Seen.{seen_files}
 use Rattle.treefs_laws.proofs.Attributed.{AreModes}
@@ -73,11 +79,45 @@ module _ (T : Types) (state state' : StoreState) (volume : Volume) (is_open : Is
   here : IsAt T fs node inode top state
   here = record { store = kept.store; root = is_open.root; volume = kept.bytes }
 
-  abbrev Said : Type 0
-  Said = IsOpen T state' volume × (files_in state' volume ≡ files_in state volume)
+  abbrev Said : ℕ → Type 0
+  Said block = IsOpen T state' volume × (files_in state' volume ≡ files_in state volume)
+      × (k ≢ kind.Directory → IsBegun state' volume block (new_inode volume.memory.clock attributes (new_content k 0 head)))
 
-  by_begun : (blocks : List ℕ) → AreBegun T fs node inode top is_open.few is_open.tree (start ∷ []) [] blocks state state' → Said
-  by_begun blocks b =
+  value_is : inode_with fields (new_content k 0 head) ≡ new_inode volume.memory.clock attributes (new_content k 0 head)
+  value_is = ap (λ p. record (new_inode volume.memory.clock attributes (new_content k 0 head)) { permissions = p }) (modes.permissions k attributes.permissions fit.permissions)
+
+  is_begun : (block : ℕ) (made : List New) → block ∷ [] ≡ blocks_in made → AreOf T fs node inode top is_open.few is_open.tree (start ∷ []) made →
+      AreNew node inode (kinds state' fs) (readable state' fs) top made → k ≢ kind.Directory →
+      IsBegun state' volume block (new_inode volume.memory.clock attributes (new_content k 0 head))
+  is_begun block [] same of news no_directory = absurd of
+  is_begun block (y ∷ z ∷ made) same of news no_directory = absurd of.2
+  is_begun block (y ∷ []) same of news no_directory =
+      let is : y.block ≡ block = sym (ap first_or same) in
+      let new = news.0 in
+      subst (λ b. IsBegun state' volume b (new_inode volume.memory.clock attributes (new_content k 0 head))) is (record {
+        fields = fields;
+        head = head;
+        of_kind = k;
+        bytes = new.bytes ∙ of.1;
+        in_range = in_range;
+        short = short;
+        size = refl;
+        kind_is = modes.kind k attributes.permissions fit.permissions;
+        no_directory = no_directory;
+        value = sym value_is;
+        typed = new.typed ∙ of.0;
+        there = new.there;
+        within = new.within;
+        no_root = new.no_root;
+        unled = new.unled;
+      })
+    where
+      first_or : List ℕ → ℕ
+      first_or [] = 0
+      first_or (b ∷ bs) = b
+
+  by_begun : (block : ℕ) → AreBegun T fs node inode top is_open.few is_open.tree (start ∷ []) [] (block ∷ []) state state' → Said block
+  by_begun block b =
       let same : files_in state' volume ≡ files_in state volume = ap (seen_files volume.memory.touched) b.files in (
         record {
           kept = record { store = b.at.store; bytes = b.at.volume; session = kept.session };
@@ -89,12 +129,13 @@ module _ (T : Types) (state state' : StoreState) (volume : Volume) (is_open : Is
               (λ touch some none. some (ap (λ f. f touch.number) (sym same) ∙ none)) volume.memory.touched is_open.touched;
         },
         same,
+        is_begun block b.made b.blocks_are b.of b.news,
       )
 
-  pub begun_no_file : (block : ℕ) → BeginDoes T state state' volume k attributes head (Ok block) → Said
+  pub begun_no_file : (block : ℕ) → BeginDoes T state state' volume k attributes head (Ok block) → Said block
   begun_no_file block does = by (has_room state fs (length volume.memory.touched) 2 []) does
     where
-      by : (t : Bool) → MatchBool t (BeginsOne T fs start state state' (Ok block)) ((◌≡◌ {A = Result ℕ Fault} (Ok block) (Err Full)) × (state' ≡ state)) → Said
-      by true (entry, begun) = by_begun (block ∷ []) (begun_so T fs node inode top is_open.few is_open.tree (start ∷ []) [] (block ∷ []) state state' fine here
+      by : (t : Bool) → MatchBool t (BeginsOne T fs start state state' (Ok block)) ((◌≡◌ {A = Result ℕ Fault} (Ok block) (Err Full)) × (state' ≡ state)) → Said block
+      by true (entry, begun) = by_begun block (begun_so T fs node inode top is_open.few is_open.tree (start ∷ []) [] (block ∷ []) state state' fine here
           (inr ((block, entry), state', begun, (refl, refl))))
       by false full = absurd (cc full.0)

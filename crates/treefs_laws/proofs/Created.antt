@@ -93,7 +93,7 @@ made_there files time d name n inode m there =
     changed_there (with_name (with_inode files n (Some inode)) d name (Some n)) d (touched_inode time) m
     (changed_there (with_inode files n (Some inode)) d (renamed_in name (Some n)) m (with_there files n inode m there))
 
-nodes_long : (node last : ℕ) (os : List ℕ) → length (node_starts node last os) ≡ length os
+pub nodes_long : (node last : ℕ) (os : List ℕ) → length (node_starts node last os) ≡ length os
 nodes_long node last [] = refl
 nodes_long node last (o ∷ os) = ap suc (nodes_long node last os)
 

@@ -22,3 +22,4 @@ mod ReadBack
 mod StillOpen
 mod Beginning
 mod Listing
+mod Committed

@@ -29,8 +29,8 @@ use Rattle.treefs_edits.specs.Memories.{Memory}
 use Rattle.treefs_edits.specs.Rooms.{has_room, has_room_in}
 use Rattle.treefs_edits.specs.declared.tree.Tree.{Tree}
 use Rattle.treefs_name_plans.specs.Additions.{old_start}
-use Rattle.treefs_name_plans.specs.CommitPlans.{IsNumberFound, commit_in_room}
-use Rattle.treefs_name_plans.specs.Namings.{naming_parts}
+use Rattle.treefs_name_plans.specs.CommitPlans.{IsCommitPlanned, IsNumberFound, IsNumbered, IsTarget, IsTargetOf, commit_in_room}
+use Rattle.treefs_name_plans.specs.Namings.{naming_in, naming_parts}
 use Rattle.treefs_name_plans.specs.NewNames.{addition_at, addition_in, directory_for, free_name, if_free, if_taken, place_in, taken_in}
 use Rattle.treefs_name_plans.specs.NewPlans.{IsNewPlanned, free_in_room, new_in_room}
 use Rattle.treefs_name_plans.specs.declared.addition.Addition.{Addition}
@@ -38,6 +38,7 @@ use Rattle.treefs_name_plans.specs.declared.addition.Addition.TheVariants.{Behin
 use Rattle.treefs_name_plans.specs.declared.addition.NewBucket.{NewBucket}
 use Rattle.treefs_name_plans.specs.declared.addition.OldBucket.{OldBucket}
 use Rattle.treefs_name_plans.specs.declared.commit_plan.CommitPlan.{CommitPlan}
+use Rattle.treefs_name_plans.specs.declared.name_end.NameEnd.{NameEnd}
 use Rattle.treefs_name_plans.specs.declared.naming.Naming.TheVariants.{Added}
 use Rattle.treefs_name_plans.specs.declared.new_plan.NewPlan.{NewPlan}
 use Rattle.treefs_values.proofs.ForCallers.{AreFree, IsFound, IsPlace, directory_is, in_leaf}
@@ -54,22 +55,29 @@ module _ (content : ℕ → List ℕ) (top d : ℕ) (name : List ℕ) where
     pub named : is_name name ≡ true
     pub no_slot : slot_named content (key_in content top) block name ≡ None
 
-  pub free_so : (block : ℕ) → free_name content top d name ≡ Ok block → IsFreeName block
-  free_so block is =
-      let one = then_ok (directory_for content top d name) (λ (x : Found). and_then (taken_in content top d name) (if_free x.block)) block is in
-      let x : Found = one.0 in
-      let two = then_ok (directory_found content top d) (λ (y : Found). if is_name name then Ok y else Err BadName) x one.1 in
-      let three = then_ok (taken_in content top d name) (if_free x.block) block one.2 in
-      by two.0 two.1 x (is_name name) refl two.2 three.0 three.1 three.2
+  no_slot : (y : Found) → directory_found content top d ≡ Ok y → is_name name ≡ true → taken_in content top d name ≡ Ok None →
+      slot_named content (key_in content top) y.block name ≡ None
+  no_slot y y_is h taken = of (slot_named content (key_in content top) y.block name) refl
+      (sym (ap if_taken (ap (λ r. and_then r (λ (z : Found). named_in content (key_in content top) name z.block)) y_is
+      ∙ ap (λ t. if t then ok_or (slot_named content (key_in content top) y.block name) NoEntry else Err BadName) h)) ∙ taken)
     where
-      by : (y : Found) → directory_found content top d ≡ Ok y → (x : Found) → (t : Bool) → is_name name ≡ t →
-          ◌≡◌ {A = Result Found Fault} (if is_name name then Ok y else Err BadName) (Ok x) → (slot : Option Slot) → taken_in content top d name ≡ Ok slot →
-          if_free x.block slot ≡ Ok block → IsFreeName block
-      by y y_is x false h e slot taken free = absurd (cc (sym (ap (λ t. if t then Ok y else Err BadName) h) ∙ e))
-      by y y_is x true h e (Some slot) taken free = absurd (cc free)
-      by y y_is x true h e None taken free =
+      of : (o : Option Slot) → slot_named content (key_in content top) y.block name ≡ o →
+          if_taken (ok_or (slot_named content (key_in content top) y.block name) NoEntry) ≡ Ok None → slot_named content (key_in content top) y.block name ≡ None
+      of None g e = g
+      of (Some slot) g e = absurd (cc (sym (ap (λ o. if_taken (ok_or o NoEntry)) g) ∙ e))
+
+  -- a directory, of which the name is not taken
+  pub free_from : (x : Found) → directory_for content top d name ≡ Ok x → taken_in content top d name ≡ Ok None → IsFreeName x.block
+  free_from x is taken =
+      let two = then_ok (directory_found content top d) (λ (y : Found). if is_name name then Ok y else Err BadName) x is in
+      by two.0 two.1 (is_name name) refl two.2
+    where
+      by : (y : Found) → directory_found content top d ≡ Ok y → (t : Bool) → is_name name ≡ t →
+          ◌≡◌ {A = Result Found Fault} (if is_name name then Ok y else Err BadName) (Ok x) → IsFreeName x.block
+      by y y_is false h e = absurd (cc (sym (ap (λ t. if t then Ok y else Err BadName) h) ∙ e))
+      by y y_is true h e =
           let same : y ≡ x = same_done y x (sym (ap (λ t. if t then Ok y else Err BadName) h) ∙ e) in
-          let block_is : y.block ≡ block = ap (λ (z : Found). z.block) same ∙ same_done x.block block free in
+          let block_is : y.block ≡ x.block = ap (λ (z : Found). z.block) same in
           record {
             found = y;
             found_is = y_is;
@@ -77,17 +85,17 @@ module _ (content : ℕ → List ℕ) (top d : ℕ) (name : List ℕ) where
             named = h;
             no_slot = subst (λ b. slot_named content (key_in content top) b name ≡ None) block_is (no_slot y y_is h taken);
           }
-        where
-          no_slot : (y : Found) → directory_found content top d ≡ Ok y → is_name name ≡ true → taken_in content top d name ≡ Ok None →
-              slot_named content (key_in content top) y.block name ≡ None
-          no_slot y y_is h taken = of (slot_named content (key_in content top) y.block name) refl
-              (sym (ap if_taken (ap (λ r. and_then r (λ (z : Found). named_in content (key_in content top) name z.block)) y_is
-              ∙ ap (λ t. if t then ok_or (slot_named content (key_in content top) y.block name) NoEntry else Err BadName) h)) ∙ taken)
-            where
-              of : (o : Option Slot) → slot_named content (key_in content top) y.block name ≡ o →
-                  if_taken (ok_or (slot_named content (key_in content top) y.block name) NoEntry) ≡ Ok None → slot_named content (key_in content top) y.block name ≡ None
-              of None g e = g
-              of (Some slot) g e = absurd (cc (sym (ap (λ o. if_taken (ok_or o NoEntry)) g) ∙ e))
+
+  pub free_so : (block : ℕ) → free_name content top d name ≡ Ok block → IsFreeName block
+  free_so block is =
+      let one = then_ok (directory_for content top d name) (λ (x : Found). and_then (taken_in content top d name) (if_free x.block)) block is in
+      let x : Found = one.0 in
+      let three = then_ok (taken_in content top d name) (if_free x.block) block one.2 in
+      by x one.1 three.0 three.1 three.2
+    where
+      by : (x : Found) → directory_for content top d name ≡ Ok x → (slot : Option Slot) → taken_in content top d name ≡ Ok slot → if_free x.block slot ≡ Ok block → IsFreeName block
+      by x x_is (Some slot) taken free = absurd (cc free)
+      by x x_is None taken free = subst IsFreeName (same_done x.block block free) (free_from x x_is taken)
 
 -- Where its record goes
 
@@ -254,3 +262,49 @@ module _ (state : StoreState) (tree : Tree) (memory : Memory) (d : ℕ) (name in
             plan_is = sym (same_done (record { inode = inode; commit = two.0 }) plan two.2)
                 ∙ ap (λ (c : CommitPlan). record { inode = inode; commit = c }) (in_room 31 n directory one.0 two.0 two.1);
           }
+
+  -- of an inode that was begun, where nothing is replaced
+
+  pub record IsFirstPlan (plan : CommitPlan) : Type 0 where
+    pub directory : ℕ
+    pub free : IsFreeName contents tree.top d name directory
+    pub n : ℕ
+    pub next : IsNextNumber state tree.fs.number tree.top memory.hint n
+    pub addition : Addition
+    pub addition_found : addition_in state tree d directory name ≡ Ok addition
+    pub plan_is : plan ≡ commit_of n directory addition
+
+  first_of_free : (plan : CommitPlan) (directory : ℕ) → IsFreeName contents tree.top d name directory → IsNumbered state tree memory d directory name (Ok plan) None → IsFirstPlan plan
+  first_of_free plan directory free (Err fault, number, e) = absurd (cc e)
+  first_of_free plan directory free (Ok n, number, e) =
+      let one = then_ok (naming_in state tree d directory name None) (commit_in_room state tree memory 30 n directory) plan (sym e) in
+      let two = then_ok (addition_in state tree d directory name) (λ addition. Ok (Added addition)) one.0 one.1 in
+      record {
+        directory = directory;
+        free = free;
+        n = n;
+        next = number;
+        addition = two.0;
+        addition_found = two.1;
+        plan_is = in_room 30 n directory two.0 plan
+            (subst (λ naming. commit_in_room state tree memory 30 n directory naming ≡ Ok plan) (sym (same_done (Added two.0) one.0 two.2)) one.2);
+      }
+
+  pub first_planned : (plan : CommitPlan) → IsCommitPlanned state tree memory d name false (Ok plan) → IsFirstPlan plan
+  first_planned plan planned = by (directory_for contents tree.top d name) refl planned
+    where
+      by_taken : (x : Found) → directory_for contents tree.top d name ≡ Ok x → (target : Option NameEnd) → (r : Result (Option Slot) Fault) → taken_in contents tree.top d name ≡ r →
+          MatchResult r (IsTargetOf state tree memory d name false (Ok target)) (λ fault. ◌≡◌ {A = Result (Option NameEnd) Fault} (Ok target) (Err fault)) →
+          IsNumbered state tree memory d x.block name (Ok plan) target → IsFirstPlan plan
+      by_taken x is target (Err fault) taken e rest = absurd (cc e)
+      by_taken x is target (Ok (Some slot)) taken e rest = absurd (cc e)
+      by_taken x is (Some end) (Ok None) taken e rest = absurd (cc e)
+      by_taken x is None (Ok None) taken e rest = first_of_free plan x.block (free_from contents tree.top d name x is taken) rest
+
+      by : (r : Result Found Fault) → directory_for contents tree.top d name ≡ r →
+          MatchResult r (λ x. (target : Result (Option NameEnd) Fault) × IsTarget state tree memory d name false target
+          × MatchResult target (IsNumbered state tree memory d x.block name (Ok plan)) (λ fault. ◌≡◌ {A = Result CommitPlan Fault} (Ok plan) (Err fault)))
+          (λ fault. ◌≡◌ {A = Result CommitPlan Fault} (Ok plan) (Err fault)) → IsFirstPlan plan
+      by (Err fault) is e = absurd (cc e)
+      by (Ok x) is (Err fault, is_target, rest) = absurd (cc rest)
+      by (Ok x) is (Ok target, is_target, rest) = by_taken x is target (taken_in contents tree.top d name) refl is_target rest

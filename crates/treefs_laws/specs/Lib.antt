@@ -3,4 +3,5 @@ pub mod Kept
 pub mod Open
 pub mod Making
 pub mod Reading
+pub mod Begun
 pub mod Setting

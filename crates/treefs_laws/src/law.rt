@@ -1,10 +1,11 @@
 // Laws of calls.
 
-ghost use Rattle.std.specs.Prelude.{◌≡◌, ◌<◌, ◌≤◌, ℕ, ℤ, All, FitsSigned, List, None, Some, Ok, Result, [], drop, length, take, true};
+ghost use Rattle.std.specs.Prelude.{◌≡◌, ◌≢◌, ◌<◌, ◌≤◌, ℕ, ℤ, All, FitsSigned, List, None, Some, Ok, Result, [], drop, false, length, take, true};
 ghost use Rattle.std.specs.Int.{w64};
 ghost use Rattle.xn_model.specs.Types.{Types};
 ghost use Rattle.xn_model.specs.Lives.{StoreState};
 ghost use Rattle.treefs_format.specs.declared.kind.Kind.{Kind};
+ghost use Rattle.treefs_format.specs.declared.kind.Kind.TheVariants as kinds;
 ghost use Rattle.treefs_model.specs.Changes.{IsListing, linked, read, removed, target, unlinked, with_mtime};
 ghost use Rattle.treefs_model.specs.Files.{Directory, File, Inode, Names, SymbolicLink, and_then, changed_at, found, number_in};
 ghost use Rattle.treefs_model.specs.declared.fault.Fault.{Fault};
@@ -13,6 +14,7 @@ ghost use Rattle.treefs_lookup.specs.Inodes.{file_found, link_found};
 ghost use Rattle.treefs_lookup.specs.Readable.{readable};
 ghost use Rattle.treefs_lookup.specs.declared.bucket.Bucket.{Bucket};
 ghost use Rattle.treefs_lookup.specs.declared.inodes.Found.{Found};
+ghost use Rattle.treefs.specs.Committing.{CommitDoes};
 ghost use Rattle.treefs.specs.Creating.{BeginDoes, CreateDoes, MkdirDoes, SymlinkDoes};
 ghost use Rattle.treefs.specs.Linking.{LinkDoes};
 ghost use Rattle.treefs.specs.Reads.{lookup_of, stat_of};
@@ -20,8 +22,10 @@ ghost use Rattle.treefs.specs.Setting.{AttributesDoes, MtimeDoes};
 ghost use Rattle.treefs.specs.Unlinking.{RmdirDoes, UnlinkDoes};
 ghost use Rattle.treefs.specs.declared.attributes.Attributes.{Attributes as NewAttributes};
 ghost use Rattle.treefs.specs.declared.volume.Volume.{Volume};
+ghost use Rattle.treefs_values.specs.Attached.{new_content};
 ghost use Rattle.treefs_values.specs.Values.{found_value};
 ghost use Rattle.treefs_byte_plans.specs.declared.attributes.Attributes.{Attributes};
+ghost use Rattle.treefs_laws.specs.Begun.{IsBegun};
 ghost use Rattle.treefs_laws.specs.Kept.{HasNoNames, IsKept, files_in};
 ghost use Rattle.treefs_laws.specs.Making.{FitsAttributes, MakesInode, new_inode};
 ghost use Rattle.treefs_laws.specs.Open.{IsOpen};
@@ -142,15 +146,26 @@ pub fn link_makes_a_name()
     layout_is_known();
 }
 
-/// `begin` begins an inode that no name leads to, and changes no file.
+/// `begin` begins an inode that no name leads to, and changes no file; of a file or a symbolic link the block says what was told.
 pub fn begin_changes_no_file()
     ensures { (T : Types) (state state' : StoreState) (volume : Volume) (kind : Kind) (attributes : NewAttributes) (head : List ℕ) (block : ℕ) →
         IsOpen T state volume → FitsAttributes attributes → All (λ b. b < 256) head → length head ≤ 384 →
         BeginDoes T state state' volume kind attributes head (Ok block) →
-        IsOpen T state' volume × (files_in state' volume ≡ files_in state volume) }
+        IsOpen T state' volume × (files_in state' volume ≡ files_in state volume)
+        × (kind ≢ kinds.Directory → IsBegun state' volume block (new_inode volume.memory.clock attributes (new_content kind 0 head))) }
 {
     layout_is_known();
     modes_are_read_back();
+}
+
+/// `commit` gives an inode that was begun a number and its first name, where nothing is to be replaced, and does nothing else.
+pub fn commit_names_an_inode()
+    ensures { (T : Types) (state state' : StoreState) (volume volume' : Volume) (block : ℕ) (inode : Inode) (d : ℕ) (name : List ℕ) (n : ℕ) →
+        IsOpen T state volume → IsBegun state volume block inode → All (λ b. b < 256) name →
+        CommitDoes T state state' volume volume' block d name false (Ok n) →
+        IsOpen T state' volume' × MakesInode state state' volume volume' d name n inode }
+{
+    layout_is_known();
 }
 
 /// An open volume is one still once `set_mtime`, `set_attributes`, `unlink` or `rmdir` is done.
