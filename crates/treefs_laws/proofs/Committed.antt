@@ -100,20 +100,20 @@ module _ (T : Types) (state state' : StoreState) (volume : Volume) (d : ℕ) (na
   abbrev k : Kind
   k = y_is.of_kind
 
-  empty : k ≡ kind.Directory → head ≡ []
+  pub empty : k ≡ kind.Directory → head ≡ []
   empty is = absurd (y_is.no_directory is)
 
   -- the block of the inode
-  abbrev y : New
+  abbrev pub y : New
   y = record { block = block; ty = inode; bytes = inode_bytes fields head }
 
   kept : IsKept T state volume
   kept = is_open.kept
 
-  here : IsAt T fs node inode top state
+  pub here : IsAt T fs node inode top state
   here = record { store = kept.store; root = is_open.root; volume = kept.bytes }
 
-  is_new : IsNew node inode (kinds state fs) (readable state fs) top y
+  pub is_new : IsNew node inode (kinds state fs) (readable state fs) top y
   is_new = record {
     there = y_is.there;
     within = y_is.within;
@@ -276,21 +276,34 @@ module _ (T : Types) (state state' : StoreState) (volume : Volume) (d : ℕ) (na
 
   -- The call
 
-  pub committed_said : (volume' : Volume) (n : ℕ) → CommitDoes T state state' volume volume' block d name false (Ok n) →
-      IsOpen T state' volume' × MakesInode state state' volume volume' d name n value
-  committed_said volume' n (Err fault, is_planned, does, number, is) = absurd does
-  committed_said volume' n (Ok plan, (inner, is_planned, e), does, number, is) =
+  abbrev pub IsPlanned : Bool → Volume → ℕ → CommitPlan → Type 0
+  IsPlanned replace volume' n plan = IsCommitPlanned state volume.tree volume.memory d name replace (Ok plan) × Does T fs (commit_plan name block plan) state state' (Ok tt)
+      × (n ≡ plan.number) × (volume' ≡ record volume { memory = committed_memory volume.memory d plan })
+
+  pub planned_so : (replace : Bool) (volume' : Volume) (n : ℕ) → CommitDoes T state state' volume volume' block d name replace (Ok n) →
+      (plan : CommitPlan) × IsPlanned replace volume' n plan
+  planned_so replace volume' n (Err fault, is_planned, does, number, is) = absurd does
+  planned_so replace volume' n (Ok plan, (inner, is_planned, e), does, number, is) =
       let one = then_ok inner (if_readable (read_of state fs block)) plan (sym e) in
       let same : one.0 ≡ plan = of_read (read_of state fs block) one.0 plan one.2 in
-      let planned = subst (IsCommitPlanned state volume.tree volume.memory d name false) (one.1 ∙ ap Ok same) is_planned in
-      let p = first_planned state volume.tree volume.memory d name [] plan planned in
+      (plan, (subst (IsCommitPlanned state volume.tree volume.memory d name replace) (one.1 ∙ ap Ok same) is_planned, does, number, is))
+    where
+      of_read : (r : Result (List ℕ) Refusal) (x plan : CommitPlan) → if_readable r x ≡ Ok plan → x ≡ plan
+      of_read (Ok bytes) x plan e = same_done x plan e
+      of_read (Err reason) x plan e = absurd (cc e)
+
+  pub first_said : (replace : Bool) (volume' : Volume) (n : ℕ) (plan : CommitPlan) → IsFirstPlan state volume.tree volume.memory d name [] plan →
+      IsPlanned replace volume' n plan → IsOpen T state' volume' × MakesInode state state' volume volume' d name n value
+  first_said replace volume' n plan p (is_planned, does, number, is) =
       let does' = subst (λ x. Does T fs (commit_plan name block x) state state' (Ok tt)) p.plan_is does in
       let whole = said plan p (carried plan p does') in
       subst (λ m. IsOpen T state' volume' × MakesInode state state' volume volume' d name m value) (sym number)
       (subst (λ v. IsOpen T state' v × MakesInode state state' volume v d name plan.number value) (sym is)
       (subst (λ (q : CommitPlan). IsOpen T state' (record volume { memory = committed_memory volume.memory d q })
       × MakesInode state state' volume (record volume { memory = committed_memory volume.memory d q }) d name q.number value) (sym p.plan_is) whole))
-    where
-      of_read : (r : Result (List ℕ) Refusal) (x plan : CommitPlan) → if_readable r x ≡ Ok plan → x ≡ plan
-      of_read (Ok bytes) x plan e = same_done x plan e
-      of_read (Err reason) x plan e = absurd (cc e)
+
+  pub committed_said : (volume' : Volume) (n : ℕ) → CommitDoes T state state' volume volume' block d name false (Ok n) →
+      IsOpen T state' volume' × MakesInode state state' volume volume' d name n value
+  committed_said volume' n does =
+      let c = planned_so false volume' n does in
+      first_said false volume' n c.0 (first_planned state volume.tree volume.memory d name [] c.0 c.1.0) c.1

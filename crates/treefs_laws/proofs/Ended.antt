@@ -19,13 +19,13 @@ module _ (touched : List Touched) (clock : ℤ) (n : ℕ) (once : AreTouchedOnce
   abbrev newest : Times
   newest = record { mtime = (touched_times touched n times).mtime; ctime = clock }
 
-  abbrev times_by : Bool → Option Times
+  abbrev pub times_by : Bool → Option Times
   times_by b = if b then None else Some (record { mtime = (touched_times touched n times).mtime; ctime = clock })
 
-  abbrev left_by : Bool → List Touched
+  abbrev pub left_by : Bool → List Touched
   left_by b = written_times touched n (times_by b)
 
-  apart : (b : Bool) (m : ℕ) (t : Times) → m ≢ n → touched_times (left_by b) m t ≡ touched_times touched m t
+  pub apart : (b : Bool) (m : ℕ) (t : Times) → m ≢ n → touched_times (left_by b) m t ≡ touched_times touched m t
   apart true m t ne = refl
   apart false m t ne = others_written n t t m ne touched
 
@@ -33,7 +33,7 @@ module _ (touched : List Touched) (clock : ℤ) (n : ℕ) (once : AreTouchedOnce
     abbrev seen : Inode
     seen = seen_inode touched n x
 
-    fewer : (b : Bool) → nat_le links 1 ≡ b → seen_inode (left_by b) n (inode_with_links (links - 1) (times_by b) None x) ≡ less_links clock seen
+    pub fewer : (b : Bool) → nat_le links 1 ≡ b → seen_inode (left_by b) n (inode_with_links (links - 1) (times_by b) None x) ≡ less_links clock seen
     fewer true h =
         let low = leb-true links 1 h in let none : links - 1 ≡ 0 = omega arith in
         ap (λ k. record seen { links = k }) none

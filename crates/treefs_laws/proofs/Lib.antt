@@ -23,3 +23,4 @@ mod StillOpen
 mod Beginning
 mod Listing
 mod Committed
+mod Replaced

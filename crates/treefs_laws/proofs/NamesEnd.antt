@@ -40,7 +40,7 @@ use Rattle.treefs_laws.proofs.Touching.{all_touched, all_written_out, once_touch
 -- The session's memory
 
 module _ (memory : Memory) (session : IsSession memory) (n d : ℕ) (times : Times) (fit : AreTimes times) (low : Bool) where
-  abbrev newest : Option Times
+  abbrev pub newest : Option Times
   newest = if low then None else Some (newest_times memory n times)
 
   newest_fit : AreTimes (newest_times memory n times)
@@ -114,13 +114,13 @@ module _ (T : Types) (state state' : StoreState) (volume : Volume) (known : IsLa
   bytes : All (λ b. b < 256) (content c)
   bytes = (kept.bytes.blocks c (λ z. kept.bytes.some_types.1 (sym (kept.bytes.typed.inodes n is.there) ∙ z))).1
 
-  fit : AreTimes (times_of ended.inode.fields)
+  pub fit : AreTimes (times_of ended.inode.fields)
   fit = subst (λ f. AreTimes (times_of f)) (sym is.fields) (time_fits (content c) bytes 24, time_fits (content c) bytes 32)
 
-  short : fields_links - 1 < 2 ^ 32
+  pub short : fields_links - 1 < 2 ^ 32
   short = let whole : fields_links < 2 ^ 32 = subst (λ f. f.links < 2 ^ 32) (sym is.fields) (word_fits (content c) bytes 4) in omega arith
 
-  abbrev value : Inode
+  abbrev pub value : Inode
   value = found_value content top ended.inode
 
   value_found : found files n ≡ Ok value

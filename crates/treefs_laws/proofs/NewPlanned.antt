@@ -1,6 +1,6 @@
 -- What planners found of a new name.
 use Rattle.std.proofs.Common.{◌≡◌, ◌≢◌, ◌⊎◌, ℕ, ◌+◌, ◌-◌, ◌<◌, ◌≤◌, Bool, true, false, ◌&&◌, List, [], ◌∷◌, length, drop, Option, None, Some, Result, Ok, Err, refl, sym, ◌∙◌, ap, inl, inr, arith, subst, if◌then◌else◌}
-use Rattle.std.specs.Prelude.{Contains, IsTrue, MatchResult, ◌==◌}
+use Rattle.std.specs.Prelude.{Contains, IsTrue, MatchResult, is_some, ◌==◌}
 use Rattle.std.specs.List.{list_all}
 use Rattle.std.specs.Option.{ok_or}
 use Rattle.std.proofs.lemmas.Bool.{cases_eq, eq-eqb, ne_eqb}
@@ -29,8 +29,9 @@ use Rattle.treefs_edits.specs.Memories.{Memory}
 use Rattle.treefs_edits.specs.Rooms.{has_room, has_room_in}
 use Rattle.treefs_edits.specs.declared.tree.Tree.{Tree}
 use Rattle.treefs_name_plans.specs.Additions.{old_start}
-use Rattle.treefs_name_plans.specs.CommitPlans.{IsCommitPlanned, IsNumberFound, IsNumbered, IsTarget, IsTargetOf, commit_in_room}
-use Rattle.treefs_name_plans.specs.Namings.{naming_in, naming_parts}
+use Rattle.treefs_name_plans.specs.CommitPlans.{IsCommitPlanned, IsNumberFound, IsNumbered, IsTarget, IsTargetOf, commit_in_room, some_of}
+use Rattle.treefs_name_plans.specs.Ends.{ended_in, file_ended, if_no_directory, name_end}
+use Rattle.treefs_name_plans.specs.Namings.{IsReplaceable, if_written, naming_in, naming_parts}
 use Rattle.treefs_name_plans.specs.NewNames.{addition_at, addition_in, directory_for, free_name, if_free, if_taken, place_in, taken_in}
 use Rattle.treefs_name_plans.specs.NewPlans.{IsNewPlanned, free_in_room, new_in_room}
 use Rattle.treefs_name_plans.specs.declared.addition.Addition.{Addition}
@@ -38,8 +39,13 @@ use Rattle.treefs_name_plans.specs.declared.addition.Addition.TheVariants.{Behin
 use Rattle.treefs_name_plans.specs.declared.addition.NewBucket.{NewBucket}
 use Rattle.treefs_name_plans.specs.declared.addition.OldBucket.{OldBucket}
 use Rattle.treefs_name_plans.specs.declared.commit_plan.CommitPlan.{CommitPlan}
+use Rattle.treefs_name_plans.specs.declared.ended.Ended.{Ended}
 use Rattle.treefs_name_plans.specs.declared.name_end.NameEnd.{NameEnd}
-use Rattle.treefs_name_plans.specs.declared.naming.Naming.TheVariants.{Added}
+use Rattle.treefs_format.specs.declared.kind.Kind.{Kind}
+use Rattle.treefs_format.specs.declared.kind.Kind.TheVariants as kind
+use Rattle.std.proofs.lemmas.Option.{same_Some}
+use Rattle.xn_model.specs.PendingIn.{newest_entry_of}
+use Rattle.treefs_name_plans.specs.declared.naming.Naming.TheVariants.{Added, Replaced}
 use Rattle.treefs_name_plans.specs.declared.new_plan.NewPlan.{NewPlan}
 use Rattle.treefs_values.proofs.ForCallers.{AreFree, IsFound, IsPlace, directory_is, in_leaf}
 use Rattle.treefs_laws.proofs.NewPlaces.{IsMissing, IsPlaceFor, IsRewritten, place_for}
@@ -305,6 +311,99 @@ module _ (state : StoreState) (tree : Tree) (memory : Memory) (d : ℕ) (name in
           MatchResult r (λ x. (target : Result (Option NameEnd) Fault) × IsTarget state tree memory d name false target
           × MatchResult target (IsNumbered state tree memory d x.block name (Ok plan)) (λ fault. ◌≡◌ {A = Result CommitPlan Fault} (Ok plan) (Err fault)))
           (λ fault. ◌≡◌ {A = Result CommitPlan Fault} (Ok plan) (Err fault)) → IsFirstPlan plan
+      by (Err fault) is e = absurd (cc e)
+      by (Ok x) is (Err fault, is_target, rest) = absurd (cc rest)
+      by (Ok x) is (Ok target, is_target, rest) = by_taken x is target (taken_in contents tree.top d name) refl is_target rest
+
+  -- where what has the name is replaced
+
+  abbrev pub replacing_of : ℕ → ℕ → NameEnd → CommitPlan
+  replacing_of n directory end = record {
+    number = n;
+    directory = directory;
+    node_type = tree.node_type;
+    inode_type = tree.inode_type;
+    owner = (reach contents tree.top (steps (leaf_of_inode n))).block;
+    missing = (reach contents tree.top (steps (leaf_of_inode n))).missing;
+    naming = Replaced end;
+  }
+
+  pub record IsSecondPlan (plan : CommitPlan) : Type 0 where
+    pub directory : ℕ
+    pub ended : Ended
+    pub found_so : ended_in contents tree.top d name ≡ Ok ended
+    pub no_directory : ended.inode.kind ≢ kind.Directory
+    pub n : ℕ
+    pub next : IsNextNumber state tree.fs.number tree.top memory.hint n
+    pub plan_is : plan ≡ replacing_of n directory (name_end memory ended)
+
+  in_room_for : (edits n directory : ℕ) (end : NameEnd) (commit : CommitPlan) → commit_in_room state tree memory edits n directory (Replaced end) ≡ Ok commit →
+      commit ≡ replacing_of n directory end
+  in_room_for edits n directory end commit is =
+      by (has_room state tree.fs.number (length memory.touched) edits (naming_parts (Replaced end) directory)
+      && list_all (has_room_in state) (((reach contents tree.top (steps (leaf_of_inode n))).block, 2) ∷ [])) is
+    where
+      by : (t : Bool) → ◌≡◌ {A = Result CommitPlan Fault} (if t then Ok (replacing_of n directory end) else Err Full) (Ok commit) → commit ≡ replacing_of n directory end
+      by true e = sym (same_done (replacing_of n directory end) commit e)
+      by false e = absurd (cc e)
+
+  no_directory_in : (x ended : Ended) (k : Kind) → x.inode.kind ≡ k → if_no_directory x k ≡ Ok ended → (x ≡ ended) × (x.inode.kind ≢ kind.Directory)
+  no_directory_in x ended kind.Directory is done = absurd (cc done)
+  no_directory_in x ended kind.File is done = (same_done x ended done, λ z. absurd (cc (sym is ∙ z)))
+  no_directory_in x ended kind.SymbolicLink is done = (same_done x ended done, λ z. absurd (cc (sym is ∙ z)))
+
+  second_of : (plan : CommitPlan) (directory : ℕ) (end : NameEnd) (ended : Ended) → file_ended contents tree.top d name ≡ Ok ended → end ≡ name_end memory ended →
+      IsNumbered state tree memory d directory name (Ok plan) (Some end) → IsSecondPlan plan
+  second_of plan directory end ended is end_is (Err fault, number, e) = absurd (cc e)
+  second_of plan directory end ended is end_is (Ok n, number, e) =
+      let x = then_ok (ended_in contents tree.top d name) (λ (x : Ended). if_no_directory x x.inode.kind) ended is in
+      let k = no_directory_in x.0 ended x.0.inode.kind refl x.2 in
+      record {
+        directory = directory;
+        ended = ended;
+        found_so = x.1 ∙ ap Ok k.0;
+        no_directory = λ z. k.1 (ap (λ (x : Ended). x.inode.kind) k.0 ∙ z);
+        n = n;
+        next = number;
+        plan_is = in_room_for 30 n directory end plan (sym e) ∙ ap (replacing_of n directory) end_is;
+      }
+
+  written_end : (end : NameEnd) (ended : Ended) (other : Result (Option ℕ) Fault) →
+      ◌≡◌ {A = Result NameEnd Fault} (Ok end) (and_then other (if_written state (name_end memory ended))) → end ≡ name_end memory ended
+  written_end end ended (Err fault) e = absurd (cc e)
+  written_end end ended (Ok None) e = same_done end (name_end memory ended) e
+  written_end end ended (Ok (Some block)) e = by (is_some (newest_entry_of state block)) e
+    where
+      by : (t : Bool) → ◌≡◌ {A = Result NameEnd Fault} (Ok end) (if t then Err Full else Ok (name_end memory ended)) → end ≡ name_end memory ended
+      by true e = absurd (cc e)
+      by false e = same_done end (name_end memory ended) e
+
+  pub second_planned : (plan : CommitPlan) → IsCommitPlanned state tree memory d name true (Ok plan) → IsFirstPlan plan ⊎ IsSecondPlan plan
+  second_planned plan planned = by (directory_for contents tree.top d name) refl planned
+    where
+      by_ended : (x : Found) (end : NameEnd) (r : Result Ended Fault) → file_ended contents tree.top d name ≡ r → (answer : Result NameEnd Fault) →
+          MatchResult r (λ ended. IsReplaceable state tree.fs.number memory ended answer) (λ fault. answer ≡ Err fault) →
+          ◌≡◌ {A = Result (Option NameEnd) Fault} (Ok (Some end)) (some_of answer) → IsNumbered state tree memory d x.block name (Ok plan) (Some end) → IsSecondPlan plan
+      by_ended x end (Err fault) is (Err other) e same rest = absurd (cc same)
+      by_ended x end (Err fault) is (Ok other) e same rest = absurd (cc e)
+      by_ended x end (Ok ended) is (Err other) e same rest = absurd (cc same)
+      by_ended x end (Ok ended) is (Ok other) e same rest =
+          second_of plan x.block end ended is (same_Some end other (same_done (Some end) (Some other) same) ∙ written_end other ended e.0 e.2) rest
+
+      by_taken : (x : Found) → directory_for contents tree.top d name ≡ Ok x → (target : Option NameEnd) → (r : Result (Option Slot) Fault) → taken_in contents tree.top d name ≡ r →
+          MatchResult r (IsTargetOf state tree memory d name true (Ok target)) (λ fault. ◌≡◌ {A = Result (Option NameEnd) Fault} (Ok target) (Err fault)) →
+          IsNumbered state tree memory d x.block name (Ok plan) target → IsFirstPlan plan ⊎ IsSecondPlan plan
+      by_taken x is target (Err fault) taken e rest = absurd (cc e)
+      by_taken x is None (Ok (Some slot)) taken (Err fault, replaced, e) rest = absurd (cc e)
+      by_taken x is None (Ok (Some slot)) taken (Ok end, replaced, e) rest = absurd (cc e)
+      by_taken x is (Some end) (Ok (Some slot)) taken e rest = inr (by_ended x end (file_ended contents tree.top d name) refl e.0 e.1 e.2 rest)
+      by_taken x is (Some end) (Ok None) taken e rest = absurd (cc e)
+      by_taken x is None (Ok None) taken e rest = inl (first_of_free plan x.block (free_from contents tree.top d name x is taken) rest)
+
+      by : (r : Result Found Fault) → directory_for contents tree.top d name ≡ r →
+          MatchResult r (λ x. (target : Result (Option NameEnd) Fault) × IsTarget state tree memory d name true target
+          × MatchResult target (IsNumbered state tree memory d x.block name (Ok plan)) (λ fault. ◌≡◌ {A = Result CommitPlan Fault} (Ok plan) (Err fault)))
+          (λ fault. ◌≡◌ {A = Result CommitPlan Fault} (Ok plan) (Err fault)) → IsFirstPlan plan ⊎ IsSecondPlan plan
       by (Err fault) is e = absurd (cc e)
       by (Ok x) is (Err fault, is_target, rest) = absurd (cc rest)
       by (Ok x) is (Ok target, is_target, rest) = by_taken x is target (taken_in contents tree.top d name) refl is_target rest

@@ -77,7 +77,7 @@ waits_keep end first (other ∷ others) behind =
 some_there : (files : Files) (n : ℕ) (inode : Inode) → found files n ≡ Ok inode → files n ≢ None
 some_there files n inode is none = absurd (cc (sym (ap (λ o. ok_or o NoEntry) none) ∙ is))
 
-directory_there : (files : Files) (d n : ℕ) (name : List ℕ) → number_in files d name ≡ Ok n → files d ≢ None
+pub directory_there : (files : Files) (d n : ℕ) (name : List ℕ) → number_in files d name ≡ Ok n → files d ≢ None
 directory_there files d n name is none =
     absurd (cc (sym (ap (λ o. and_then (and_then (and_then (ok_or o NoEntry) linked_names) (λ names. when (is_name name) names BadName)) (λ names. ok_or (names name) NoEntry)) none) ∙ is))
 
@@ -111,7 +111,7 @@ module _ (T : Types) (state : StoreState) (volume : Volume) (is_open : IsOpen T 
   still : (new : Files) → ((m : ℕ) → seen m ≢ None → new m ≢ None) → All (λ (touch : Touched). new touch.number ≢ None) touched
   still new stays = All-weaker (λ (touch : Touched). seen touch.number ≢ None) (λ touch. new touch.number ≢ None) (λ touch some. stays touch.number some) touched is_open.touched
 
-  still_written : (new : Files) → ((m : ℕ) → seen m ≢ None → new m ≢ None) → (n : ℕ) (times : Option Times) →
+  pub still_written : (new : Files) → ((m : ℕ) → seen m ≢ None → new m ≢ None) → (n : ℕ) (times : Option Times) →
       All (λ (touch : Touched). new touch.number ≢ None) (written_times touched n times)
   still_written new stays n None = still new stays
   still_written new stays n (Some times) = all_written_out (λ touch. new touch.number ≢ None) n touched (still new stays)

@@ -69,7 +69,7 @@ module _ (state : StoreState) (volume : Volume) (d : ℕ) (name : List ℕ) (pla
 
 -- What it makes of the volume
 
-not_directory : (content : ℕ → List ℕ) (key : List ℕ) (block parent : ℕ) (k : Kind) → k ≢ kind.Directory → is_directory (content_at content key block parent k) ≡ false
+pub not_directory : (content : ℕ → List ℕ) (key : List ℕ) (block parent : ℕ) (k : Kind) → k ≢ kind.Directory → is_directory (content_at content key block parent k) ≡ false
 not_directory content key block parent kind.Directory ne = absurd (ne refl)
 not_directory content key block parent kind.File ne = refl
 not_directory content key block parent kind.SymbolicLink ne = refl

@@ -6,7 +6,7 @@ ghost use Rattle.xn_model.specs.Types.{Types};
 ghost use Rattle.xn_model.specs.Lives.{StoreState};
 ghost use Rattle.treefs_format.specs.declared.kind.Kind.{Kind};
 ghost use Rattle.treefs_format.specs.declared.kind.Kind.TheVariants as kinds;
-ghost use Rattle.treefs_model.specs.Changes.{IsListing, linked, read, removed, target, unlinked, with_mtime};
+ghost use Rattle.treefs_model.specs.Changes.{IsListing, linked, read, removed, replaced, target, unlinked, with_mtime};
 ghost use Rattle.treefs_model.specs.Files.{Directory, File, Inode, Names, SymbolicLink, and_then, changed_at, found, number_in};
 ghost use Rattle.treefs_model.specs.declared.fault.Fault.{Fault};
 ghost use Rattle.treefs_lookup.specs.Bytes.{read_count, read_into};
@@ -164,6 +164,17 @@ pub fn commit_names_an_inode()
         IsOpen T state volume → IsBegun state volume block inode → All (λ b. b < 256) name →
         CommitDoes T state state' volume volume' block d name false (Ok n) →
         IsOpen T state' volume' × MakesInode state state' volume volume' d name n inode }
+{
+    layout_is_known();
+}
+
+/// `commit` that may replace gives an inode that was begun a number and its first name, of which what had it, a file or a link, loses a link.
+pub fn commit_replaces_a_name()
+    ensures { (T : Types) (state state' : StoreState) (volume volume' : Volume) (block : ℕ) (inode : Inode) (d : ℕ) (name : List ℕ) (n : ℕ) →
+        IsOpen T state volume → IsBegun state volume block inode → All (λ b. b < 256) name →
+        CommitDoes T state state' volume volume' block d name true (Ok n) →
+        IsOpen T state' volume' × (files_in state volume n ≡ None)
+        × (replaced (files_in state volume) volume.memory.clock d name n inode ≡ Ok (files_in state' volume')) }
 {
     layout_is_known();
 }

@@ -11,7 +11,7 @@ pub use Rattle.treefs_values.proofs.Ways.{counted}
 pub use Rattle.treefs_values.proofs.FoundEntries.{IsEntry, IsFound, directory_is, entry_is, found_inode}
 pub use Rattle.treefs_values.proofs.LookUps.{inodes_found, numbers_found, numbers_named}
 -- edits of one block
-pub use Rattle.treefs_values.proofs.NamesEnd.{links_make, name_ended, same_size}
+pub use Rattle.treefs_values.proofs.NamesEnd.{links_make, name_ended, name_led, same_size}
 pub use Rattle.treefs_values.proofs.Readings.{acts_read}
 pub use Rattle.treefs_values.proofs.ManyChanges.{fields_changed}
 pub use Rattle.treefs_values.proofs.NewInodes.{bare_inode, bare_node, inode_small, node_small}
@@ -25,3 +25,4 @@ pub use Rattle.treefs_values.proofs.Placing.{AreFree, IsBehind, IsDirectoryAt, I
 pub use Rattle.treefs_values.proofs.Placing.{rewritten_behind, rewritten_directory, rewritten_files, rewritten_here, rewritten_inode, rewritten_keeps, rewritten_ways}
 pub use Rattle.treefs_values.proofs.Tabled.{IsLeafed, IsTabled, leafed_so, tabled_so}
 pub use Rattle.treefs_values.proofs.Fielding.{fields_files, fields_here, fields_inode, fields_keep, fields_key}
+pub use Rattle.treefs_values.proofs.FoundStill.{entry_still, found_still}

@@ -37,6 +37,7 @@ pub mod Paths
 pub mod Numbering
 pub mod Placing
 pub mod Fielding
+pub mod FoundStill
 pub mod Tabled
 pub mod EmptyBlocks
 pub mod ForCallers

@@ -46,7 +46,7 @@ module _ (was : Fields) (links : ℕ) where
 
 module _ (node inode top : ℕ) (type : ℕ → ℕ) (old : ℕ → List ℕ) (v : IsVolume node inode type old top) (f : IsLayout) (d : ℕ) (name : List ℕ) (slot : Slot)
     (slot_is : entry_found old top d name ≡ Ok slot) (found : Found) (found_is : inode_found old top slot.number ≡ Ok found) (links : ℕ) (times : Option Times) (parent : Option ℕ)
-    (fine : All AreChanges (links_parts links times parent)) (behind behind' : Option ℕ) where
+    (fine : All AreChanges (links_parts links times parent)) (number : ℕ) (short : number < 2 ^ 32) (behind behind' : Option ℕ) where
   e : IsEntry old top d name slot
   e = entry_is old top d name slot slot_is
 
@@ -54,16 +54,13 @@ module _ (node inode top : ℕ) (type : ℕ → ℕ) (old : ℕ → List ℕ) (v
   i = found_inode old top slot.number found found_is
 
   abbrev ends : Act
-  ends = number_act slot.block slot.offset 0 behind
+  ends = number_act slot.block slot.offset number behind
 
   abbrev middle : ℕ → List ℕ
   middle = written ends old
 
-  short : 0 < 2 ^ 32
-  short = omega arith
-
-  first : IsVolume node inode type middle top × (files_of middle top ≡ with_name (files_of old top) d name (led_to 0))
-  first = found_renamed node inode top type old v f d name slot slot_is 0 short behind
+  first : IsVolume node inode type middle top × (files_of middle top ≡ with_name (files_of old top) d name (led_to number))
+  first = found_renamed node inode top type old v f d name slot slot_is number short behind
 
   few : e.bucket ≤ leaf_count
   few = candidates_few f.high _ e.bucket e.candidate
@@ -75,9 +72,9 @@ module _ (node inode top : ℕ) (type : ℕ → ℕ) (old : ℕ → List ℕ) (v
 
   stays : Stays ends
   stays =
-      subst Stays (λ j. number_act (sym e.slot_is.block j) (sym e.slot_is.offset j) 0 behind) (
-        fields_stay node inode top type old v f d e.number e.there e.bucket few e.record_of e.slot_is.of.there 0 short behind slot.number i.number i.there,
-        numbered_stays node inode top type old v f d e.number e.there e.bucket few e.record_of e.slot_is.of.there 0 short behind slot.number,
+      subst Stays (λ j. number_act (sym e.slot_is.block j) (sym e.slot_is.offset j) number behind) (
+        fields_stay node inode top type old v f d e.number e.there e.bucket few e.record_of e.slot_is.of.there number short behind slot.number i.number i.there,
+        numbered_stays node inode top type old v f d e.number e.there e.bucket few e.record_of e.slot_is.of.there number short behind slot.number,
       )
 
   abbrev c : ℕ
@@ -97,7 +94,16 @@ module _ (node inode top : ℕ) (type : ℕ → ℕ) (old : ℕ → List ℕ) (v
       (fields_changed node inode top type middle first.0 f slot.number i.number (λ z. i.there (sym stays.1 ∙ z)) (links_parts links times parent) fine behind' (same_size (fields_of (middle c)) links times parent).0
       (same_size (fields_of (middle c)) links times parent).1 (inode_with_links links times parent) (links_make (fields_of (middle c)) links times parent))
 
-  pub name_ended : IsVolume node inode type (all_written (ends ∷ links_act found.block links times parent behind' ∷ []) old) top
+  pub name_led : IsVolume node inode type (all_written (ends ∷ links_act found.block links times parent behind' ∷ []) old) top
       × (files_of (all_written (ends ∷ links_act found.block links times parent behind' ∷ []) old) top
+      ≡ changed_at (with_name (files_of old top) d name (led_to number)) slot.number (inode_with_links links times parent))
+  name_led = (second.0, second.1 ∙ ap (λ files. changed_at files slot.number (inode_with_links links times parent)) first.1)
+
+-- a name ends: its number becomes 0
+module _ (node inode top : ℕ) (type : ℕ → ℕ) (old : ℕ → List ℕ) (v : IsVolume node inode type old top) (f : IsLayout) (d : ℕ) (name : List ℕ) (slot : Slot)
+    (slot_is : entry_found old top d name ≡ Ok slot) (found : Found) (found_is : inode_found old top slot.number ≡ Ok found) (links : ℕ) (times : Option Times) (parent : Option ℕ)
+    (fine : All AreChanges (links_parts links times parent)) (behind behind' : Option ℕ) where
+  pub name_ended : IsVolume node inode type (all_written (number_act slot.block slot.offset 0 behind ∷ links_act found.block links times parent behind' ∷ []) old) top
+      × (files_of (all_written (number_act slot.block slot.offset 0 behind ∷ links_act found.block links times parent behind' ∷ []) old) top
       ≡ changed_at (with_name (files_of old top) d name None) slot.number (inode_with_links links times parent))
-  name_ended = (second.0, second.1 ∙ ap (λ files. changed_at files slot.number (inode_with_links links times parent)) first.1)
+  name_ended = name_led node inode top type old v f d name slot slot_is found found_is links times parent fine 0 (omega arith) behind behind'
