@@ -24,7 +24,7 @@ pub use fault::{Fault, at, at_bytes, at_word, not_written, system};
 pub use marks::{Mode, kind_mark};
 pub use node::{Named, Node, Stretch, Usage};
 pub use opened::Opened;
-pub use paths::{Goal, Place, TOP, find, find_to, own_name, place_of, there};
+pub use paths::{Goal, Place, TOP, find, find_to, last_name, own_name, place_of, there};
 pub use reason::{Reason, first_reason_of, naming_reason_of, path_reason_of, reason_of};
 pub use showing::{below, shown};
 pub use told::Told;

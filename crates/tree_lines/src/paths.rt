@@ -73,6 +73,12 @@ pub fn there<V: View>(view: &V, place: Place) -> Result<Option<Node>, Reason> {
     }
 }
 
+/// The last name of a path; of one of slashes alone the path.
+pub fn last_name(path: &[u8]) -> &[u8] {
+    let name = split_path(path).name;
+    if name.is_empty() { path } else { name }
+}
+
 /// The name that something at a path keeps where it goes into a folder: the last one. The top folder has none, and `.` and `..` are none.
 pub fn own_name(alloc: Global, path: &str) -> Result<&[u8], Fault> {
     let name = split_path(path.as_bytes()).name;
