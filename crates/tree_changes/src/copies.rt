@@ -1,5 +1,7 @@
 // One file or symbolic link is copied.
 
+ghost use Rattle.std.specs.Prelude.{◌≤◌, length};
+
 use crate::attributes::attributes_of;
 use crate::sparse::{copy_sparse, is_sparse, put_name};
 use flush_store::FlushStore;
@@ -64,6 +66,13 @@ impl Copying {
     }
 }
 
+/// The first bytes of a content, as many as stand in its inode's block.
+fn head_of(bytes: &[u8]) -> &[u8]
+    ensures { length result.now ≤ 384 }
+{
+    &bytes[..bytes.len().min(HEAD)]
+}
+
 /// Reads the next bytes of a file, at most a piece.
 pub fn read_piece<'p, S: FlushStore + Drop>(
     opened: &Opened<S>,
@@ -87,7 +96,10 @@ fn append_rest<S: FlushStore + Drop>(
     piece: &mut [u8],
 ) -> Result<(), Fault> {
     let mut done = HEAD as u64;
-    while done < copied.node.size {
+    for _piece in 0..copied.node.size {
+        if done >= copied.node.size {
+            break;
+        }
         let bytes = read_piece(opened, alloc, copied, done, piece)?;
         if bytes.is_empty() {
             break;
@@ -128,7 +140,7 @@ fn copy_dense<S: FlushStore + Drop>(
     let begin = Begin {
         kind: Kind::File,
         attributes: attributes_of(&copied.node),
-        head: front(head, HEAD),
+        head: head_of(head),
     };
     let block = opened.make(alloc, copied.to, &begin)?;
     match finish(opened, alloc, copied, block, piece) {

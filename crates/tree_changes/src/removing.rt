@@ -83,10 +83,12 @@ fn empty_folder<S: FlushStore + Drop>(
     for _name in 0..u64::MAX {
         let (step, is_behind) = match walk.next(&opened.session, alloc, &mut opened.told)? {
             None => break,
-            Some(Visit::Met(step)) if step.node.is_folder() => continue,
             Some(Visit::Met(step)) => (step, false),
             Some(Visit::Left(step)) => (step, true),
         };
+        if step.node.is_folder() && !is_behind {
+            continue;
+        }
         let is_removed = remove_step(opened, alloc, &walk, (&step, is_behind), is_whole)?;
         is_whole = is_whole && is_removed;
     }

@@ -4,7 +4,7 @@ use crate::modes::Modes;
 use crate::owners::Owners;
 use flush_store::FlushStore;
 use std::alloc::Global;
-use tree_lines::{Fault, Node, Opened, Visit, Walk, find};
+use tree_lines::{Fault, Node, Opened, Walk, find};
 use treefs_byte_plans::Attributes;
 use treefs_session::SetAttributes;
 
@@ -65,14 +65,11 @@ fn set_below<S: FlushStore + Drop>(
     let (view, told) = (&opened.session, &mut opened.told);
     let mut walk = Walk::below(view, alloc, told, path.as_bytes(), folder)?;
     for _name in 0..u64::MAX {
-        match walk.next(&opened.session, alloc, &mut opened.told)? {
-            None => break,
-            Some(Visit::Met(step)) => {
-                let done = set_node(opened, alloc, walk.path(), &step.node, setting);
-                opened.told.go_on(done)?;
-            }
-            Some(Visit::Left(_)) => {}
-        }
+        let Some(step) = walk.next_met(&opened.session, alloc, &mut opened.told)? else {
+            break;
+        };
+        let done = set_node(opened, alloc, walk.path(), &step.node, setting);
+        opened.told.go_on(done)?;
     }
     Ok(())
 }

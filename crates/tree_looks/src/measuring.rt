@@ -109,7 +109,7 @@ fn measure_one<V: View>(
                 Some(Visit::Met(step)) => {
                     meet(view, alloc, told, measure, (walk.path(), &step.node))?;
                 }
-                Some(Visit::Left(_)) => {
+                Some(Visit::Left(_step)) => {
                     let blocks = measure.leave();
                     if !is_summary {
                         print_blocks(alloc, walk.path(), blocks, out)?;
@@ -135,12 +135,10 @@ pub fn measure<V: View>(
         counted: BTreeSet::new(alloc),
         sums: Vec::new(alloc),
     };
-    let here = ["."];
-    let paths = if paths.is_empty() {
-        here.as_slice()
-    } else {
-        paths
-    };
+    if paths.is_empty() {
+        let given = (folder, ".", is_summary);
+        return measure_one(view, alloc, told, &mut measure, given, out);
+    }
     for path in paths {
         let given = (folder, *path, is_summary);
         let done = measure_one(view, alloc, told, &mut measure, given, out);
