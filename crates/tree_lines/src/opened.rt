@@ -1,0 +1,189 @@
+// An open volume of trees, and what its lines know of it.
+
+use crate::fault::{Fault, at_bytes};
+use crate::paths::TOP;
+use crate::reason::{naming_reason_of, reason_of};
+use crate::told::Told;
+use file_disk::SystemFault;
+use flush_store::FlushStore;
+use std::alloc::Global;
+use store_types::Refusal;
+use treefs_model::Fault as TreeFault;
+use treefs_session::{Call, Put, Session, Target};
+
+/// An open volume of trees, and what its lines know of it.
+pub struct Opened<S: FlushStore> {
+    /// The session, for looking; what changes it goes through the methods here.
+    pub session: Session<S>,
+    /// What the line that is under way has left out.
+    pub told: Told,
+    /// The folder from which relative paths begin. It is not freed while it is held here.
+    pub folder: u32,
+    /// What tells why the disk fails, of one in a file.
+    system: Option<SystemFault>,
+    /// Whether the store refused a call, after which nothing more is done: what was pending may be half of a call, which the next opening mends.
+    is_broken: bool,
+}
+
+impl<S: FlushStore + Drop> Drop for Opened<S> {
+    fn drop(self) {
+        let Opened {
+            session: _,
+            told: _,
+            folder: _,
+            system: _,
+            is_broken: _,
+        } = self;
+    }
+}
+
+/// The fault of a store that refused. Where the system has told why the disk fails that is told.
+fn refused(system: &Option<SystemFault>, refusal: Refusal) -> Fault {
+    let told = match system {
+        Some(system) => system.first(),
+        None => None,
+    };
+    match (refusal, told) {
+        (Refusal::Device, Some(error)) => Fault::Disk(error),
+        (Refusal::NoMemory, _) => Fault::NoMemory,
+        _ => Fault::Flush(refusal),
+    }
+}
+
+impl<S: FlushStore + Drop> Opened<S> {
+    /// A volume that was just opened.
+    pub fn new(alloc: Global, session: Session<S>) -> Opened<S> {
+        Opened {
+            session,
+            told: Told::nothing(alloc),
+            folder: TOP,
+            system: None,
+            is_broken: false,
+        }
+    }
+
+    /// Has faults of the disk tell the system's reason.
+    pub fn set_system(&mut self, system: SystemFault) {
+        self.system = Some(system);
+    }
+
+    /// Whether nothing more can be done.
+    pub fn is_broken(&self) -> bool {
+        self.is_broken
+    }
+
+    /// What a call answered, or its fault at a path.
+    fn answered<A: Drop>(
+        &mut self,
+        alloc: Global,
+        path: &[u8],
+        answer: Result<A, TreeFault>,
+        is_naming: bool,
+    ) -> Result<A, Fault> {
+        let free = self.session.store().state().free();
+        match answer {
+            Ok(answer) => Ok(answer),
+            Err(TreeFault::Kernel(refusal)) => {
+                self.is_broken = true;
+                Err(refused(&self.system, refusal))
+            }
+            Err(fault) if is_naming => { Err(at_bytes(alloc, path, naming_reason_of(fault, free))) }
+            Err(fault) => Err(at_bytes(alloc, path, reason_of(fault, free))),
+        }
+    }
+
+    /// Makes a call on bytes or attributes, as `make` of a session does. Its fault is told at a path.
+    pub fn make<C: Call>(
+        &mut self,
+        alloc: Global,
+        path: &[u8],
+        call: &C,
+    ) -> Result<C::Answer, Fault>
+    where
+        C::Answer: Drop,
+    {
+        let held = [self.folder];
+        let answer = self.session.make(alloc, &held, call);
+        self.answered(alloc, path, answer, false)
+    }
+
+    /// Makes a call that makes names, as `make` does: what is too large then is the folder.
+    pub fn make_name<C: Call>(
+        &mut self,
+        alloc: Global,
+        path: &[u8],
+        call: &C,
+    ) -> Result<C::Answer, Fault>
+    where
+        C::Answer: Drop,
+    {
+        let held = [self.folder];
+        let answer = self.session.make(alloc, &held, call);
+        self.answered(alloc, path, answer, true)
+    }
+
+    /// Puts a whole file or symbolic link, as `put` of a session does, and answers its number. Its fault is told at a path.
+    pub fn put(&mut self, alloc: Global, path: &[u8], put: &Put) -> Result<u32, Fault> {
+        let held = [self.folder];
+        let answer = self.session.put(alloc, &held, put);
+        self.answered(alloc, path, answer, true)
+    }
+
+    /// Writes bytes, all of them or up to a fault, as `write_all` of a session does. Its fault is told at a path.
+    pub fn write_all(
+        &mut self,
+        alloc: Global,
+        path: &[u8],
+        target: Target,
+        bytes: &[u8],
+    ) -> Result<(), Fault> {
+        let held = [self.folder];
+        let answer = self.session.write_all(alloc, &held, target, bytes);
+        self.answered(alloc, path, answer, false)
+    }
+
+    /// Gives up an inode that was begun and got no name, by its block. What can't be given up now is freed by the next opening, and is not told.
+    pub fn give_up(&mut self, alloc: Global, block: u32) {
+        if self.is_broken {
+            return;
+        }
+        let _given_up = self.session.give_up(alloc, block);
+    }
+
+    /// Writes all that is pending, and frees what no name leads to, but for the folder that is held.
+    pub fn sync(&mut self, alloc: Global) -> Result<(), Fault> {
+        let held = [self.folder];
+        let answer = self.session.sync(alloc, &held);
+        self.answered(alloc, b"sync", answer, false)
+    }
+
+    /// Closes the volume: what no name leads to is freed, and all is written. Answers the store.
+    pub fn close(self, alloc: Global) -> Result<S, Fault> {
+        let Opened {
+            session,
+            told: _,
+            folder: _,
+            system,
+            is_broken: _,
+        } = self;
+        match session.close(alloc) {
+            Ok(store) => Ok(store),
+            Err(unclosed) => Err(match unclosed.fault {
+                TreeFault::Kernel(refusal) => refused(&system, refusal),
+                fault => Fault::Volume(reason_of(fault, 0)),
+            }),
+        }
+    }
+
+    /// The session again.
+    pub fn into_session(self) -> Session<S> {
+        let Opened {
+            session,
+            told: _,
+            folder: _,
+            system: _,
+            is_broken: _,
+        } = self;
+        session
+    }
+}

@@ -1,0 +1,129 @@
+// Where paths of a line lead in a volume.
+
+use crate::fault::{Fault, at};
+use crate::node::Node;
+use crate::reason::Reason;
+use crate::view::View;
+use std::alloc::Global;
+use treefs_paths::split_path;
+
+/// The number of the top folder.
+pub const TOP: u32 = 1;
+
+/// A name in a folder, as a path says it.
+#[derive(Clone, Copy, Debug)]
+pub struct Place<'p> {
+    pub folder: u32,
+    pub name: &'p [u8],
+    /// Whether a slash follows the name, as it may where a folder is meant.
+    pub has_slash: bool,
+}
+
+/// What stands where a path leads, from a folder on. A symbolic link at its end is followed where that is told.
+pub fn find<V: View>(
+    view: &V,
+    alloc: Global,
+    folder: u32,
+    path: &str,
+    is_followed: bool,
+) -> Result<Node, Fault> {
+    if path.is_empty() {
+        return Err(Fault::Volume(Reason::Empty));
+    }
+    let found = match view.find(alloc, folder, path.as_bytes(), is_followed) {
+        Ok(number) => view.node(number),
+        Err(reason) => Err(reason),
+    };
+    match found {
+        Ok(node) => Ok(node),
+        Err(reason) => Err(at(alloc, path, reason)),
+    }
+}
+
+/// The folder in which the last name of a path stands, or would stand, and that name. It is not looked up. The top folder has none.
+pub fn place_of<'p, V: View>(
+    view: &V,
+    alloc: Global,
+    folder: u32,
+    path: &'p str,
+) -> Result<Place<'p>, Fault> {
+    if path.is_empty() {
+        return Err(Fault::Volume(Reason::Empty));
+    }
+    let parts = split_path(path.as_bytes());
+    if parts.name.is_empty() {
+        return Err(at(alloc, path, Reason::Top));
+    }
+    match view.find(alloc, folder, parts.before, true) {
+        Ok(folder) => Ok(Place {
+            folder,
+            name: parts.name,
+            has_slash: !parts.behind.is_empty(),
+        }),
+        Err(reason) => Err(at(alloc, path, reason)),
+    }
+}
+
+/// What a name in a folder leads to, if there is such a name. A symbolic link is not followed.
+pub fn there<V: View>(view: &V, place: Place) -> Result<Option<Node>, Reason> {
+    match view.look_up(place.folder, place.name) {
+        Ok(number) => Ok(Some(view.node(number)?)),
+        Err(Reason::Missing) => Ok(None),
+        Err(reason) => Err(reason),
+    }
+}
+
+/// The last name of a path; of one of slashes alone the path.
+pub fn last_name(path: &[u8]) -> &[u8] {
+    let name = split_path(path).name;
+    if name.is_empty() { path } else { name }
+}
+
+/// The name that something at a path keeps where it goes into a folder: the last one. The top folder has none, and `.` and `..` are none.
+pub fn own_name(alloc: Global, path: &str) -> Result<&[u8], Fault> {
+    let name = split_path(path.as_bytes()).name;
+    if name.is_empty() || name == b".".as_slice() || name == b"..".as_slice() {
+        return Err(at(alloc, path, Reason::NoOwnName));
+    }
+    Ok(name)
+}
+
+/// Where something goes.
+#[derive(Clone, Copy, Debug)]
+pub enum Goal<'p> {
+    /// Into the folder of this number, under its own name.
+    Into(u32),
+    /// To this place.
+    To(Place<'p>),
+}
+
+impl<'p> Goal<'p> {
+    /// The place of what goes there, which has this name of its own.
+    pub fn place(self, name: &'p [u8]) -> Place<'p> {
+        match self {
+            Goal::Into(folder) => Place {
+                folder,
+                name,
+                has_slash: false,
+            },
+            Goal::To(place) => place,
+        }
+    }
+}
+
+/// Where something goes that is to be at a path: into the folder that is there, over a symbolic link too, or to that place. Where several things go there it
+/// has to be a folder.
+pub fn find_to<'p, V: View>(
+    view: &V,
+    alloc: Global,
+    folder: u32,
+    path: &'p str,
+    are_several: bool,
+) -> Result<Goal<'p>, Fault> {
+    match find(view, alloc, folder, path, true) {
+        Ok(node) if node.is_folder() => Ok(Goal::Into(node.number)),
+        Ok(_) if are_several => Err(at(alloc, path, Reason::NoFolder)),
+        Err(fault) if are_several => Err(fault),
+        _ => Ok(Goal::To(place_of(view, alloc, folder, path)?)),
+    }
+}

@@ -1,0 +1,142 @@
+// Why something can't be done at a path.
+
+use std::alloc::{AllocError, AllocFailed};
+use store_types::Refusal;
+use thiserror::Error;
+use treefs_model::Fault as TreeFault;
+use xnfs_session::FfsFault;
+
+/// Why something can't be done at a path. Its text reads well behind the path.
+#[derive(Clone, Copy, Debug, PartialEq, Eq, Error)]
+pub enum Reason {
+    #[error("no such file or folder")]
+    Missing,
+    #[error("is there already")]
+    There,
+    #[error("is no folder")]
+    NoFolder,
+    #[error("is a folder")]
+    Folder,
+    #[error("the folder is not empty")]
+    NotEmpty,
+    #[error("no name: a name has 1 to 255 bytes, without a slash or a zero, and is not . or ..")]
+    BadName,
+    #[error("is no symbolic link")]
+    NoLink,
+    #[error("leads through more than 40 symbolic links")]
+    Loop,
+    #[error("leads through a symbolic link whose target has more than 4096 bytes")]
+    LongTarget,
+    #[error("a folder can't stand below itself")]
+    Cycle,
+    #[error("too large: a file has at most 134251159552 bytes")]
+    FileTooLarge,
+    #[error("the folder has no place for this name")]
+    NoPlace,
+    #[error("no number is left for a file: the volume has as many as it can have")]
+    NoNumber,
+    #[error("no space: {free} blocks free")]
+    NoSpace { free: u32 },
+    #[error("more is to be written at once than the disk takes")]
+    Full,
+    #[error("the store refused: {0}")]
+    Refused(Refusal),
+    #[error("no memory")]
+    NoMemory,
+    #[error("inode {0} has more names than links")]
+    Unsound(u16),
+    #[error("something is pending")]
+    Pending,
+    #[error("is a folder with two names, and is met the second time")]
+    TwoNames,
+    #[error("is the top folder")]
+    Top,
+    #[error("has no name of its own")]
+    NoOwnName,
+    #[error("is the same file")]
+    Same,
+    #[error("is no text")]
+    NotText,
+    #[error("is neither a file nor a folder nor a symbolic link")]
+    Special,
+    #[error("standard input has the lines of the shell")]
+    Lines,
+    #[error("only a file has a place on standard output")]
+    OnlyFiles,
+    #[error("the path is empty")]
+    Empty,
+}
+
+impl From<AllocError> for Reason {
+    fn from(_error: AllocError) -> Reason {
+        Reason::NoMemory
+    }
+}
+
+impl<T: Drop> From<AllocFailed<T>> for Reason {
+    fn from(_error: AllocFailed<T>) -> Reason {
+        Reason::NoMemory
+    }
+}
+
+/// The reason of a refusal of the store.
+fn of_refusal(refusal: Refusal, free: u32) -> Reason {
+    match refusal {
+        Refusal::NoMemory => Reason::NoMemory,
+        Refusal::NoSpace => Reason::NoSpace { free },
+        _ => Reason::Refused(refusal),
+    }
+}
+
+/// What the fault of a call on bytes or attributes of a volume of trees is at a path; so many blocks are free.
+pub fn reason_of(fault: TreeFault, free: u32) -> Reason {
+    match fault {
+        TreeFault::NoEntry => Reason::Missing,
+        TreeFault::Exists => Reason::There,
+        TreeFault::NotDir => Reason::NoFolder,
+        TreeFault::IsDir => Reason::Folder,
+        TreeFault::NotEmpty => Reason::NotEmpty,
+        TreeFault::BadName => Reason::BadName,
+        TreeFault::NotLink => Reason::NoLink,
+        TreeFault::TooLarge => Reason::FileTooLarge,
+        TreeFault::NoInode => Reason::NoNumber,
+        TreeFault::NoSpace => Reason::NoSpace { free },
+        TreeFault::Cycle => Reason::Cycle,
+        TreeFault::Full => Reason::Full,
+        TreeFault::Kernel(refusal) => of_refusal(refusal, free),
+    }
+}
+
+/// What the fault of a call that makes a name is at a path: what is too large is the folder.
+pub fn naming_reason_of(fault: TreeFault, free: u32) -> Reason {
+    match fault {
+        TreeFault::TooLarge => Reason::NoPlace,
+        _ => reason_of(fault, free),
+    }
+}
+
+/// What the fault of a path is: what goes round are symbolic links, and what is too large is the target of one.
+pub fn path_reason_of(fault: TreeFault) -> Reason {
+    match fault {
+        TreeFault::Cycle => Reason::Loop,
+        TreeFault::TooLarge => Reason::LongTarget,
+        _ => reason_of(fault, 0),
+    }
+}
+
+/// What the fault of a look at a volume of the first file system is at a path.
+pub fn first_reason_of(fault: FfsFault) -> Reason {
+    match fault {
+        FfsFault::NoEntry => Reason::Missing,
+        FfsFault::Exists => Reason::There,
+        FfsFault::NotDir => Reason::NoFolder,
+        FfsFault::IsDir => Reason::Folder,
+        FfsFault::DirNotEmpty => Reason::NotEmpty,
+        FfsFault::BadName => Reason::BadName,
+        FfsFault::TooLarge => Reason::FileTooLarge,
+        FfsFault::NoInode => Reason::NoNumber,
+        FfsFault::Unsound(inode) => Reason::Unsound(inode),
+        FfsFault::Pending => Reason::Pending,
+        FfsFault::Kernel(refusal) => of_refusal(refusal, 0),
+    }
+}

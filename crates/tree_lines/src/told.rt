@@ -1,0 +1,72 @@
+// Faults that end nothing, and are told at the end of a line.
+
+use crate::fault::Fault;
+use std::alloc::{AllocError, Global};
+
+/// So many faults of one line are told; of more their number.
+const MOST_TOLD: usize = 1_000;
+
+/// Faults that ended nothing, and are to be told at the end of a line.
+#[derive(Debug, Drop)]
+pub struct Told {
+    faults: Vec<Fault>,
+    more: u64,
+}
+
+impl Told {
+    /// Nothing is to be told.
+    pub fn nothing(alloc: Global) -> Told {
+        Told {
+            faults: Vec::new(alloc),
+            more: 0,
+        }
+    }
+
+    /// Keeps a fault that ends nothing. `Err` comes only for want of memory.
+    pub fn tell(&mut self, fault: Fault) -> Result<(), AllocError> {
+        if self.faults.len() < MOST_TOLD {
+            self.faults.push(fault)?;
+        } else {
+            self.more = self.more.saturating_add(1);
+        }
+        Ok(())
+    }
+
+    /// Keeps the fault of a path after which a word goes on with the next one, and passes those on after which it can't: want of memory, and of streams and
+    /// of the disk.
+    pub fn go_on(&mut self, done: Result<(), Fault>) -> Result<(), Fault> {
+        match done {
+            Ok(()) => Ok(()),
+            Err(fault) => {
+                if ends_line(&fault) {
+                    return Err(fault);
+                }
+                Ok(self.tell(fault)?)
+            }
+        }
+    }
+
+    /// Whether nothing is to be told.
+    pub fn is_empty(&self) -> bool {
+        self.faults.is_empty()
+    }
+
+    /// What is to be told of a line, of which nothing is kept any more.
+    pub fn take(&mut self, alloc: Global) -> Vec<Fault> {
+        let mut told = Vec::new(alloc);
+        std::mem::swap(&mut told, &mut self.faults);
+        if self.more > 0 {
+            let _ = told.push(Fault::More(self.more));
+            self.more = 0;
+        }
+        told
+    }
+}
+
+/// Whether nothing more of a line can be done after a fault.
+fn ends_line(fault: &Fault) -> bool {
+    match fault {
+        Fault::NoMemory | Fault::Stream(_) | Fault::Flush(_) | Fault::Disk(_) => true,
+        _ => false,
+    }
+}

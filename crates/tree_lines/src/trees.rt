@@ -1,0 +1,140 @@
+// An open volume of trees is looked at.
+
+use crate::counting::block_count;
+use crate::node::{Named, Node, Stretch, Usage};
+use crate::reason::{Reason, path_reason_of, reason_of};
+use crate::stretches::{blocks_of, stretch_of};
+use crate::view::View;
+use flush_store::FlushStore;
+use std::alloc::{AllocError, Global};
+use treefs_format::Records;
+use treefs_format::kind::permissions;
+use treefs_format::names::NAME_LEN;
+use treefs_format::paths::LEAVES;
+use treefs_format::sizes::GREATEST_SIZE;
+use treefs_lookup::Bucket;
+use treefs_paths::find_path;
+use treefs_session::Session;
+
+/// How many bytes the target of a symbolic link has at most.
+const TARGET_LEN: u64 = 4_096;
+
+/// Adds the names of a bucket.
+fn push_names(alloc: Global, names: &mut Vec<Named>, bucket: &Bucket) -> Result<(), AllocError> {
+    for record in Records::new(bucket.bytes) {
+        if record.number != 0 {
+            names.push(Named {
+                name: Vec::from_slice(alloc, record.name)?,
+                number: record.number,
+            })?;
+        }
+    }
+    Ok(())
+}
+
+impl<S: FlushStore + Drop> View for Session<S> {
+    fn node(&self, number: u32) -> Result<Node, Reason> {
+        match self.volume().stat(self.store(), number) {
+            Ok(found) => Ok(Node {
+                number,
+                kind: found.kind,
+                permissions: permissions(found.fields.mode),
+                links: found.fields.links,
+                uid: found.fields.uid,
+                gid: found.fields.gid,
+                size: found.fields.size,
+                modified: found.fields.mtime,
+                changed: found.fields.ctime,
+            }),
+            Err(fault) => Err(reason_of(fault, 0)),
+        }
+    }
+
+    fn look_up(&self, folder: u32, name: &[u8]) -> Result<u32, Reason> {
+        match self.volume().lookup(self.store(), folder, name) {
+            Ok(number) => Ok(number),
+            Err(fault) => Err(reason_of(fault, 0)),
+        }
+    }
+
+    fn names(&self, alloc: Global, folder: u32) -> Result<Vec<Named>, Reason> {
+        let mut names = Vec::new(alloc);
+        let mut from = 0u32;
+        for _bucket in 0..LEAVES {
+            match self.volume().read_directory(self.store(), folder, from) {
+                Ok(Some(bucket)) => {
+                    push_names(alloc, &mut names, &bucket)?;
+                    from = bucket.number.saturating_add(1);
+                }
+                Ok(None) => break,
+                Err(fault) => return Err(reason_of(fault, 0)),
+            }
+        }
+        names.sort_unstable();
+        Ok(names)
+    }
+
+    fn read(&self, number: u32, at: u64, bytes: &mut [u8]) -> Result<usize, Reason> {
+        match self.volume().read(self.store(), number, at, bytes) {
+            Ok(count) => Ok(count),
+            Err(fault) => Err(reason_of(fault, 0)),
+        }
+    }
+
+    fn target(&self, alloc: Global, number: u32) -> Result<Vec<u8>, Reason> {
+        let node = View::node(self, number)?;
+        if node.is_link() && node.size > TARGET_LEN {
+            return Err(Reason::LongTarget);
+        }
+        let mut target = vec![in alloc; 0u8; node.size.min(TARGET_LEN) as usize]?;
+        match self
+            .volume()
+            .read_link(self.store(), number, 0, &mut target)
+        {
+            Ok(_) => Ok(target),
+            Err(fault) => Err(reason_of(fault, 0)),
+        }
+    }
+
+    fn stretch(&self, number: u32, at: u64, most: u64) -> Result<Option<Stretch>, Reason> {
+        let fs = self.volume().tree.fs;
+        match self.volume().stat(self.store(), number) {
+            Ok(found) => {
+                let file = (found.block, found.fields.size);
+                Ok(stretch_of(self.store(), fs, file, at, most))
+            }
+            Err(fault) => Err(reason_of(fault, 0)),
+        }
+    }
+
+    fn blocks_held(&self, number: u32) -> Result<u64, Reason> {
+        match self.volume().stat(self.store(), number) {
+            Ok(found) => Ok(blocks_of(self.store(), self.volume().tree.fs, found.block)),
+            Err(fault) => Err(reason_of(fault, 0)),
+        }
+    }
+
+    fn find(
+        &self,
+        alloc: Global,
+        folder: u32,
+        path: &[u8],
+        is_followed: bool,
+    ) -> Result<u32, Reason> {
+        let tree = self.volume().tree;
+        match find_path(alloc, self.store(), tree, folder, path, is_followed) {
+            Ok(number) => Ok(number),
+            Err(fault) => Err(path_reason_of(fault)),
+        }
+    }
+
+    fn usage(&self) -> Usage {
+        Usage {
+            free_blocks: self.store().state().free(),
+            blocks: block_count(self.store(), self.volume().tree.fs),
+            numbers: None,
+            longest_name: NAME_LEN as u32,
+            largest_file: GREATEST_SIZE,
+        }
+    }
+}

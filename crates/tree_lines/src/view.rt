@@ -1,0 +1,44 @@
+// What words ask of a volume that they look at.
+
+use crate::node::{Named, Node, Stretch, Usage};
+use crate::reason::Reason;
+use std::alloc::{AllocError, Global};
+
+/// A volume that can be looked at. A number stands for what a name leads to; the top folder has 1.
+pub trait View {
+    /// What stands at a number. Reasons are `Missing`, and those of the store.
+    fn node(&self, number: u32) -> Result<Node, Reason>;
+
+    /// The number to which a name in a folder leads. Reasons are `Missing`, `NoFolder`, `BadName`.
+    fn look_up(&self, folder: u32, name: &[u8]) -> Result<u32, Reason>;
+
+    /// The names in a folder, rising by their bytes. Reasons are `Missing`, `NoFolder`, `NoMemory`.
+    fn names(&self, alloc: Global, folder: u32) -> Result<Vec<Named>, Reason>;
+
+    /// Reads a file or a symbolic link from a byte on, up to its size, and answers how many bytes there were. Holes are zeros. Reasons are `Missing`,
+    /// `Folder`.
+    fn read(&self, number: u32, at: u64, bytes: &mut [u8]) -> Result<usize, Reason>;
+
+    /// The target of a symbolic link. Reasons are `Missing`, `NoLink`, `LongTarget` where it has more than 4,096 bytes, `NoMemory`.
+    fn target(&self, alloc: Global, number: u32) -> Result<Vec<u8>, Reason>;
+
+    /// The next bytes of a file at or past one that stand in blocks, at most so many: what is before them is a hole. `None` where only a hole follows, or
+    /// nothing. Reasons are `Missing`, `Folder`.
+    fn stretch(&self, number: u32, at: u64, most: u64) -> Result<Option<Stretch>, Reason>;
+
+    /// How many blocks are held by what stands at a number alone. The reason is `Missing`.
+    fn blocks_held(&self, number: u32) -> Result<u64, Reason>;
+
+    /// Where a path leads from a folder on: from the top folder where it begins with a slash. A symbolic link at its end is followed where that is told,
+    /// all others are. Reasons are `Missing`, `NoFolder`, `BadName`, `Loop`, `LongTarget`, `NoMemory`.
+    fn find(
+        &self,
+        alloc: Global,
+        folder: u32,
+        path: &[u8],
+        is_followed: bool,
+    ) -> Result<u32, Reason>;
+
+    /// What is taken and left, and the limits.
+    fn usage(&self) -> Usage;
+}

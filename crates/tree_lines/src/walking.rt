@@ -1,0 +1,217 @@
+// All that stands below a folder, name by name.
+
+use crate::fault::{Fault, at_bytes};
+use crate::node::{Named, Node};
+use crate::reason::Reason;
+use crate::told::Told;
+use crate::view::View;
+use std::alloc::{AllocError, Global};
+use std::collections::BTreeSet;
+
+/// A name below a folder.
+#[derive(Debug, Drop)]
+pub struct Step {
+    /// In how many folders it stands below the first one.
+    pub depth: usize,
+    /// The number of the folder that has it.
+    pub folder: u32,
+    pub name: Vec<u8>,
+    /// What stands there.
+    pub node: Node,
+}
+
+/// What a walk comes to.
+#[derive(Debug, Drop)]
+pub enum Visit {
+    /// A name, a folder's before what is in it.
+    Met(Step),
+    /// A folder, behind all that is in it.
+    Left(Step),
+}
+
+/// A folder in which a walk is.
+#[derive(Debug, Drop)]
+struct Frame {
+    /// Its number.
+    folder: u32,
+    /// How it was met; nothing of the folder where the walk began.
+    step: Option<Step>,
+    /// The names that are still to be met, the last one first.
+    waiting: Vec<Named>,
+    /// How many bytes its path has.
+    length: usize,
+}
+
+/// A walk below a folder, in rising order, each folder before what is in it. It keeps the names of the folders in which it is, and no others; so what it
+/// comes to may be changed between two steps. A folder that is met a second time, which no sound volume has, is told and left out.
+#[derive(Debug, Drop)]
+pub struct Walk {
+    frames: Vec<Frame>,
+    path: Vec<u8>,
+    seen: BTreeSet<u32>,
+}
+
+/// The names of a folder, the last one first. What can't be read is told.
+fn waiting_of<V: View>(
+    view: &V,
+    alloc: Global,
+    told: &mut Told,
+    path: &[u8],
+    folder: u32,
+) -> Result<Vec<Named>, Fault> {
+    match view.names(alloc, folder) {
+        Ok(mut names) => {
+            names.reverse();
+            Ok(names)
+        }
+        Err(reason) => {
+            told.go_on(Err(at_bytes(alloc, path, reason)))?;
+            Ok(Vec::new(alloc))
+        }
+    }
+}
+
+/// Adds a name behind a path.
+fn push_name(path: &mut Vec<u8>, name: &[u8]) -> Result<(), AllocError> {
+    if !path.is_empty() && path.last() != Some(&b'/') {
+        path.push(b'/')?;
+    }
+    path.extend_from_slice(name)
+}
+
+impl Walk {
+    /// A walk below the folder of a number, by whose path all is told.
+    pub fn below<V: View>(
+        view: &V,
+        alloc: Global,
+        told: &mut Told,
+        path: &[u8],
+        folder: u32,
+    ) -> Result<Walk, Fault> {
+        let frame = Frame {
+            folder,
+            step: None,
+            waiting: waiting_of(view, alloc, told, path, folder)?,
+            length: path.len(),
+        };
+        let mut seen = BTreeSet::new(alloc);
+        let _is_new = seen.insert(folder)?;
+        Ok(Walk {
+            frames: Vec::from_array(alloc, [frame])?,
+            path: Vec::from_slice(alloc, path)?,
+            seen,
+        })
+    }
+
+    /// The path of what was met or left last.
+    pub fn path(&self) -> &[u8] {
+        &self.path
+    }
+
+    /// Leaves out what is in the folder that was met last.
+    pub fn pass_over(&mut self) {
+        if let Some(frame) = self.frames.last_mut() {
+            frame.waiting.clear();
+        }
+    }
+
+    /// Goes into a folder that was just met.
+    fn enter<V: View>(
+        &mut self,
+        view: &V,
+        alloc: Global,
+        told: &mut Told,
+        step: &Step,
+    ) -> Result<(), Fault> {
+        let (depth, folder) = (step.depth, step.folder);
+        let name = Vec::from_slice(alloc, &step.name)?;
+        let node = step.node;
+        self.frames.push(Frame {
+            folder: node.number,
+            step: Some(Step {
+                depth,
+                folder,
+                name,
+                node,
+            }),
+            waiting: waiting_of(view, alloc, told, &self.path, node.number)?,
+            length: self.path.len(),
+        })?;
+        Ok(())
+    }
+
+    /// Meets a name of a folder; `None` where nothing is to be seen there, which is told.
+    fn meet<V: View>(
+        &mut self,
+        view: &V,
+        alloc: Global,
+        told: &mut Told,
+        folder: u32,
+        named: Named,
+    ) -> Result<Option<Step>, Fault> {
+        let depth = self.frames.len().saturating_sub(1);
+        push_name(&mut self.path, &named.name)?;
+        let node = match view.node(named.number) {
+            Ok(node) if node.is_folder() && !self.seen.insert(node.number)? => {
+                Err(Reason::TwoNames)
+            }
+            seen => seen,
+        };
+        match node {
+            Ok(node) => {
+                let step = Step {
+                    depth,
+                    folder,
+                    name: named.name,
+                    node,
+                };
+                if node.is_folder() {
+                    self.enter(view, alloc, told, &step)?;
+                }
+                Ok(Some(step))
+            }
+            Err(reason) => {
+                told.go_on(Err(at_bytes(alloc, &self.path, reason)))?;
+                Ok(None)
+            }
+        }
+    }
+
+    /// What the walk comes to next; nothing at its end. What can't be seen is told.
+    pub fn next<V: View>(
+        &mut self,
+        view: &V,
+        alloc: Global,
+        told: &mut Told,
+    ) -> Result<Option<Visit>, Fault> {
+        for _name in 0..u64::MAX {
+            let Some(frame) = self.frames.last_mut() else {
+                break;
+            };
+            let folder = frame.folder;
+            self.path.truncate(frame.length);
+            let Some(named) = frame.waiting.pop() else {
+                return Ok(self.leave());
+            };
+            if let Some(step) = self.meet(view, alloc, told, folder, named)? {
+                return Ok(Some(Visit::Met(step)));
+            }
+        }
+        Ok(None)
+    }
+
+    /// Leaves the folder in which the walk is.
+    fn leave(&mut self) -> Option<Visit> {
+        match self.frames.pop() {
+            Some(
+                Frame {
+                    folder: _,
+                    step: Some(step),
+                    waiting: _,
+                    length: _,
+                },
+            ) => Some(Visit::Left(step)),
+            _ => None,
+        }
+    }
+}

@@ -1,0 +1,30 @@
+//! Words of `xnfs` that look at a volume, of trees or of the first file system: `ls`, `tree`, `cat`, `stat`, `readlink`, `find`, `du`, `df`, and what `check`
+//! prints of a volume of trees.
+//!
+//! Of these functions it is proved that they are safe and end. The rest is tested.
+//! May touch: memory, streams.
+#![tactic(auto)]
+
+mod checking;
+mod contents;
+mod entries;
+mod findings;
+mod globs;
+mod json;
+mod listing;
+mod measuring;
+mod moments;
+mod rows;
+mod searching;
+mod stating;
+mod telling;
+
+pub use checking::check;
+pub use contents::{cat, read_link};
+pub use globs::Glob;
+pub use listing::{Listing, list};
+pub use measuring::measure;
+pub use moments::{Exact, Minutes};
+pub use searching::{Sought, search};
+pub use stating::stat;
+pub use telling::{tree, usage};

@@ -1,0 +1,78 @@
+// The words `tree` and `df`.
+
+use crate::json::Members;
+use std::alloc::Global;
+use std::io::Write;
+use tree_lines::{Fault, Reason, Told, Usage, View, Visit, Walk, at, find, kind_mark, shown};
+
+/// `tree`: all that stands below a folder, each name two spaces further in than its folder's.
+pub fn tree<V: View>(
+    view: &V,
+    alloc: Global,
+    told: &mut Told,
+    (folder, path): (u32, &str),
+    out: &mut impl Write,
+) -> Result<(), Fault> {
+    let node = find(view, alloc, folder, path, true)?;
+    if !node.is_folder() {
+        return Err(at(alloc, path, Reason::NoFolder));
+    }
+    let mut walk = Walk::below(view, alloc, told, path.as_bytes(), node.number)?;
+    for _name in 0..u64::MAX {
+        let step = match walk.next(view, alloc, told)? {
+            None => break,
+            Some(Visit::Met(step)) => step,
+            Some(Visit::Left(_)) => continue,
+        };
+        for _folder in 0..step.depth {
+            write!(out, "  ")?;
+        }
+        let (name, mark) = (shown(alloc, &step.name)?, kind_mark(step.node.kind));
+        writeln!(out, "{name}{mark}")?;
+    }
+    Ok(())
+}
+
+/// Prints what is taken and left, and the limits.
+fn print_usage(usage: &Usage, out: &mut impl Write) -> Result<(), Fault> {
+    writeln!(
+        out,
+        "blocks free: {} of {}, of 512 bytes",
+        usage.free_blocks, usage.blocks
+    )?;
+    if let Some((used, most)) = usage.numbers {
+        writeln!(out, "inodes used: {used} of {most}")?;
+    }
+    writeln!(
+        out,
+        "limits: a name {} bytes, a file {} bytes",
+        usage.longest_name, usage.largest_file
+    )?;
+    Ok(())
+}
+
+/// `df`: what is taken and left, and the limits; with `is_json` as an object of JSON.
+pub fn usage<V: View>(
+    view: &V,
+    alloc: Global,
+    is_json: bool,
+    out: &mut impl Write,
+) -> Result<(), Fault> {
+    let usage = view.usage();
+    if !is_json {
+        return print_usage(&usage, out);
+    }
+    let mut object = Members::none(alloc);
+    object.number("free_blocks", u64::from(usage.free_blocks))?;
+    object.number("blocks", u64::from(usage.blocks))?;
+    object.number("block_size", 512)?;
+    if let Some((used, most)) = usage.numbers {
+        object.number("used_inodes", u64::from(used))?;
+        object.number("inodes", u64::from(most))?;
+    }
+    object.number("longest_name", u64::from(usage.longest_name))?;
+    object.number("largest_file", usage.largest_file)?;
+    let text = object.into_text()?;
+    writeln!(out, "{text}")?;
+    Ok(())
+}
