@@ -1,6 +1,6 @@
 // Commands that there aren't.
 
-use crate::forms::{Place, forms_of};
+use crate::forms::{Form, Place, forms_of};
 use std::alloc::{AllocError, Global};
 use strsim::jaro;
 
@@ -16,13 +16,19 @@ pub struct Unknown<'a> {
     pub meant: Option<&'static str>,
 }
 
+/// Adds the names of the commands of these forms.
+fn add_names(names: &mut Vec<&'static str>, forms: &[Form]) -> Result<(), AllocError> {
+    for form in forms {
+        names.push(form.name)?;
+    }
+    Ok(())
+}
+
 /// The names of all commands of a place.
 fn names_of(alloc: Global, place: Place) -> Result<Vec<&'static str>, AllocError> {
     let mut names = Vec::new(alloc);
     for forms in forms_of(place) {
-        for form in forms {
-            names.push(form.name)?;
-        }
+        add_names(&mut names, forms)?;
     }
     Ok(names)
 }
