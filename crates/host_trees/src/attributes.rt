@@ -15,6 +15,9 @@ const SET_ID: u16 = 0o6000;
 
 const NANOSECONDS: i64 = 1_000_000_000;
 
+/// In such blocks the system tells how much of a file stands on the device.
+const BLOCK: u64 = 512;
+
 /// What stands at a path of the system.
 #[derive(Clone, Copy, Debug, PartialEq, Eq)]
 pub enum Kind {
@@ -37,6 +40,8 @@ pub struct Attributes {
     pub modified: i64,
     /// In bytes.
     pub size: u64,
+    /// How many bytes stand on the device: of a file with holes they are fewer than its size.
+    pub held: u64,
     /// How many names it has.
     pub links: u64,
     pub device: u64,
@@ -97,6 +102,7 @@ pub fn attributes_of(metadata: &Metadata) -> Attributes {
             .saturating_mul(NANOSECONDS)
             .saturating_add(metadata.mtime_nsec()),
         size: metadata.size(),
+        held: metadata.blocks().saturating_mul(BLOCK),
         links: metadata.nlink(),
         device: metadata.dev(),
         inode: metadata.ino(),

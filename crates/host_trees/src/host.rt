@@ -49,6 +49,12 @@ pub trait Host {
     /// Makes a folder, which nobody but its owner may enter yet.
     fn make_folder(&self, path: &str) -> io::Result<()>;
 
+    /// Makes a folder where none is, with those above it.
+    fn make_folders(&self, path: &str) -> io::Result<()>;
+
+    /// The user and the group of who runs the program; 0 where the system doesn't tell.
+    fn own_ids(&self) -> (u32, u32);
+
     /// Makes a symbolic link; in the place of one that is there where that is told. The owner is set where that may be done.
     fn make_symbolic_link(
         &self,
@@ -56,7 +62,7 @@ pub trait Host {
         target: &str,
         path: &str,
         is_over: bool,
-        settings: &Settings,
+        settings: Option<&Settings>,
     ) -> io::Result<()>;
 
     /// Gives the file at a path one more name; in the place of a regular file where that is told, which is locked first.
@@ -68,13 +74,13 @@ pub trait Host {
         is_over: bool,
     ) -> Result<(), WriteFault>;
 
-    /// Writes the file of a name. A regular file is replaced as a whole, synced, by one that has what is told to be set; one that is locked is refused. What is
-    /// no regular file is written in place.
+    /// Writes the file of a name. A regular file is replaced as a whole, synced, by one that has what is told to be set, or else what the old one has; one that
+    /// is locked is refused. What is no regular file is written in place.
     fn write_file<F: Filler>(
         &self,
         path: &str,
         links: Links,
-        settings: &Settings,
+        settings: Option<&Settings>,
         filler: &mut F,
     ) -> Result<(), WriteFault>;
 

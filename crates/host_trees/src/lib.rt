@@ -2,7 +2,7 @@
 //! links, behind a trait, so that a test can stand in for the system.
 //!
 //! Of these functions it is proved that they are safe and end. That the system's own calls are what `real` takes them for is to be read, and not proved.
-//! May touch: memory, files, the clock.
+//! May touch: memory, files, clock.
 #![tactic(auto)]
 
 mod attributes;

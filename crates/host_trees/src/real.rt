@@ -8,13 +8,16 @@ use crate::writing::write_file;
 use std::alloc::Global;
 use std::fs::{DirBuilder, File, Files, OpenOptions};
 use std::io::{ErrorKind, Read, Write};
-use std::os::unix::fs::{DirBuilderExt, lchown};
+use std::os::unix::fs::{DirBuilderExt, MetadataExt, lchown};
 use std::rt::Clock;
 use std::{fs, io};
 use system_files::{Access, Links, OpenFault, WriteFault, open_locked};
 
 /// Where standard error leads to, as the system names it.
 const STANDARD_ERROR: &str = "/proc/self/fd/2";
+
+/// What belongs to the user and the group of who runs the program.
+const OWN_PROCESS: &str = "/proc/self";
 
 /// The mode of a folder that is being filled.
 const OWN: u32 = 0o700;
@@ -121,13 +124,24 @@ impl<'a, R: Files<File = File> + AllocGlobal + Clock + Clone + Drop> Host for Re
         DirBuilder::new().mode(OWN).create(self.rt, path)
     }
 
+    fn make_folders(&self, path: &str) -> io::Result<()> {
+        fs::create_dir_all(self.rt, path)
+    }
+
+    fn own_ids(&self) -> (u32, u32) {
+        match fs::metadata(self.rt, OWN_PROCESS) {
+            Ok(metadata) => (metadata.uid(), metadata.gid()),
+            Err(_) => (0, 0),
+        }
+    }
+
     fn make_symbolic_link(
         &self,
         alloc: Global,
         target: &str,
         path: &str,
         is_over: bool,
-        settings: &Settings,
+        settings: Option<&Settings>,
     ) -> io::Result<()> {
         let made = Made::SymbolicLink(target);
         if is_over {
@@ -135,7 +149,9 @@ impl<'a, R: Files<File = File> + AllocGlobal + Clock + Clone + Drop> Host for Re
         } else {
             make(self.rt, made, path)?;
         }
-        let _ = lchown(self.rt, path, Some(settings.uid), Some(settings.gid));
+        if let Some(settings) = settings {
+            let _ = lchown(self.rt, path, Some(settings.uid), Some(settings.gid));
+        }
         Ok(())
     }
 
@@ -161,7 +177,7 @@ impl<'a, R: Files<File = File> + AllocGlobal + Clock + Clone + Drop> Host for Re
         &self,
         path: &str,
         links: Links,
-        settings: &Settings,
+        settings: Option<&Settings>,
         filler: &mut F,
     ) -> Result<(), WriteFault> {
         write_file(self.rt, path, links, settings, filler)
@@ -173,7 +189,10 @@ impl<'a, R: Files<File = File> + AllocGlobal + Clock + Clone + Drop> Host for Re
 
     fn milliseconds(&self) -> u64 {
         match self.rt.monotonic() {
-            Ok(time) => u64::try_from(time.as_millis()).unwrap_or(u64::MAX),
+            Ok(time) => time
+                .as_secs()
+                .saturating_mul(1_000)
+                .saturating_add(u64::from(time.subsec_millis())),
             Err(_) => 0,
         }
     }

@@ -41,12 +41,11 @@ impl<W: Write> Sink for PlainSink<'_, W> {
     }
 
     fn skip(&mut self, count: u64) -> io::Result<()> {
-        let mut left = count;
-        while left > 0 {
-            let next = left.min(ZEROS as u64);
-            self.out.write_all(&ZERO_BYTES[..next as usize])?;
-            left -= next;
+        for _ in 0..count / ZEROS as u64 {
+            self.out.write_all(&ZERO_BYTES)?;
         }
+        let left = (count % ZEROS as u64) as usize;
+        self.out.write_all(&ZERO_BYTES[..left])?;
         Ok(())
     }
 }

@@ -6,13 +6,14 @@ use crate::attributes::{Settings, set_all};
 use crate::sink::{Filler, PlainSink, SparseSink};
 use std::fs::{File, Files, Metadata, OpenOptions, TryLockError};
 use std::io::ErrorKind;
+use std::os::unix::fs::{MetadataExt, fchown};
 use std::{fs, io};
 use system_files::{Found, Links, Source, System, WriteFault, is_same, write_by};
 
 /// The system that runs the program, with what the file that is written gets.
 struct Writing<'a, R: Files<File = File> + AllocGlobal, F: Filler> {
     rt: &'a R,
-    settings: &'a Settings,
+    settings: Option<&'a Settings>,
     filler: &'a mut F,
 }
 
@@ -100,8 +101,13 @@ impl<'a, R: Files<File = File> + AllocGlobal, F: Filler> System for Writing<'a, 
         }
     }
 
-    /// The new file gets what is told of it, once it has its bytes.
-    fn keep(&mut self, _file: &File, _old: &File) -> Result<(), WriteFault> {
+    fn keep(&mut self, file: &File, old: &File) -> Result<(), WriteFault> {
+        let metadata = old.metadata()?;
+        // It takes rights that few users have. The group may be one's own where the owner may not be given away.
+        if fchown(file, Some(metadata.uid()), Some(metadata.gid())).is_err() {
+            let _ = fchown(file, None, Some(metadata.gid()));
+        }
+        file.set_permissions(metadata.permissions())?;
         Ok(())
     }
 
@@ -114,7 +120,9 @@ impl<'a, R: Files<File = File> + AllocGlobal, F: Filler> System for Writing<'a, 
         let mut sink = SparseSink::new(file);
         self.filler.fill(&mut sink)?;
         sink.finish()?;
-        set_all(file, self.settings)?;
+        if let Some(settings) = self.settings {
+            set_all(file, settings)?;
+        }
         Ok(())
     }
 
@@ -143,7 +151,7 @@ pub fn write_file<R: Files<File = File> + AllocGlobal, F: Filler>(
     rt: &R,
     name: &str,
     links: Links,
-    settings: &Settings,
+    settings: Option<&Settings>,
     filler: &mut F,
 ) -> Result<(), WriteFault> {
     let mut system = Writing {
