@@ -5,7 +5,9 @@ use crate::naming::{SystemName, joined, system_name};
 use host_trees::{Host, Kind, Settings};
 use std::alloc::Global;
 use system_files::WriteFault;
-use tree_lines::{Fault, Node, Reason, Step, View, Visit, Walk, at, at_bytes, not_written, system};
+use tree_lines::{
+    Fault, Node, Reason, Step, View, Visit, Walk, at, at_bytes, not_written, shown, system,
+};
 use treefs_format::Kind as NodeKind;
 
 /// A folder of the system that is filled.
