@@ -22,9 +22,9 @@ pub fn block_count<S: Store>(store: &S, fs: Fs) -> u32 {
         if least >= most {
             break;
         }
-        let middle = least + (most - least) / 2;
+        let middle = least.saturating_add(most.saturating_sub(least) / 2);
         if has_block(store, fs, middle) {
-            least = middle + 1;
+            least = middle.saturating_add(1);
         } else {
             most = middle;
         }

@@ -120,10 +120,18 @@ pub fn find_to<'p, V: View>(
     path: &'p str,
     are_several: bool,
 ) -> Result<Goal<'p>, Fault> {
-    match find(view, alloc, folder, path, true) {
+    if path.is_empty() {
+        return Err(Fault::Volume(Reason::Empty));
+    }
+    let found = match view.find(alloc, folder, path.as_bytes(), true) {
+        Ok(number) => view.node(number),
+        Err(reason) => Err(reason),
+    };
+    match found {
         Ok(node) if node.is_folder() => Ok(Goal::Into(node.number)),
         Ok(_) if are_several => Err(at(alloc, path, Reason::NoFolder)),
-        Err(fault) if are_several => Err(fault),
-        _ => Ok(Goal::To(place_of(view, alloc, folder, path)?)),
+        Err(reason) if are_several => Err(at(alloc, path, reason)),
+        Ok(_) | Err(Reason::Missing) => Ok(Goal::To(place_of(view, alloc, folder, path)?)),
+        Err(reason) => Err(at(alloc, path, reason)),
     }
 }

@@ -200,18 +200,34 @@ impl Walk {
         Ok(None)
     }
 
+    /// The name that the walk comes to next, where it is not asked when a folder is left; nothing at its end.
+    pub fn next_met<V: View>(
+        &mut self,
+        view: &V,
+        alloc: Global,
+        told: &mut Told,
+    ) -> Result<Option<Step>, Fault> {
+        for _visit in 0..u64::MAX {
+            match self.next(view, alloc, told)? {
+                Some(Visit::Met(step)) => return Ok(Some(step)),
+                Some(Visit::Left(_step)) => {}
+                None => break,
+            }
+        }
+        Ok(None)
+    }
+
     /// Leaves the folder in which the walk is.
     fn leave(&mut self) -> Option<Visit> {
-        match self.frames.pop() {
-            Some(
-                Frame {
-                    folder: _,
-                    step: Some(step),
-                    waiting: _,
-                    length: _,
-                },
-            ) => Some(Visit::Left(step)),
-            _ => None,
+        let Frame {
+            folder: _,
+            step,
+            waiting: _,
+            length: _,
+        } = self.frames.pop()?;
+        match step {
+            Some(step) => Some(Visit::Left(step)),
+            None => None,
         }
     }
 }

@@ -16,7 +16,10 @@ fn write_file<V: View>(
     out: &mut impl Write,
 ) -> Result<(), Fault> {
     let mut done = 0u64;
-    while done < node.size {
+    for _piece in 0..node.size {
+        if done >= node.size {
+            break;
+        }
         let count = match view.read(node.number, done, piece) {
             Ok(count) => count.min(piece.len()),
             Err(reason) => return Err(at(alloc, path, reason)),

@@ -5,7 +5,7 @@ use crate::json::Items;
 use crate::rows::{Row, is_hidden, print_rows, rows_of};
 use std::alloc::Global;
 use std::io::Write;
-use tree_lines::{Fault, Node, Told, View, Visit, Walk, below, find, last_name, shown};
+use tree_lines::{Fault, Node, Told, View, Walk, below, find, last_name, shown};
 
 /// How a folder is listed.
 #[derive(Clone, Copy, Debug)]
@@ -98,11 +98,12 @@ fn print_below<V: View>(
 ) -> Result<(), Fault> {
     let mut walk = Walk::below(view, alloc, told, top.path, top.folder)?;
     for _name in 0..u64::MAX {
-        let step = match walk.next(view, alloc, told)? {
-            None => break,
-            Some(Visit::Met(step)) if step.node.is_folder() => step,
-            Some(_) => continue,
+        let Some(step) = walk.next_met(view, alloc, told)? else {
+            break;
         };
+        if !step.node.is_folder() {
+            continue;
+        }
         if is_hidden(&step.name) && !how.has_hidden {
             walk.pass_over();
             continue;
@@ -155,10 +156,8 @@ fn print_objects<V: View>(
 ) -> Result<(), Fault> {
     let mut walk = Walk::below(view, alloc, told, listed.path, listed.folder)?;
     for _name in 0..u64::MAX {
-        let step = match walk.next(view, alloc, told)? {
-            None => break,
-            Some(Visit::Met(step)) => step,
-            Some(Visit::Left(_)) => continue,
+        let Some(step) = walk.next_met(view, alloc, told)? else {
+            break;
         };
         let is_shown = how.has_hidden || !is_hidden(&step.name);
         if step.node.is_folder() && !(how.is_recursive && is_shown) {
@@ -198,6 +197,22 @@ fn print_json<V: View>(
     items.end(out)
 }
 
+/// Prints what stands at some paths.
+fn list_paths<V: View>(
+    view: &V,
+    alloc: Global,
+    told: &mut Told,
+    (folder, paths): (u32, &[&str]),
+    how: Listing,
+    out: &mut impl Write,
+) -> Result<(), Fault> {
+    if how.is_json {
+        print_json(view, alloc, told, (folder, paths), how, out)
+    } else {
+        print_all(view, alloc, told, (folder, paths), how, out)
+    }
+}
+
 /// `ls`: what stands at some paths, from a folder on; of a folder the names in it, rising. Without a path the folder itself is listed.
 pub fn list<V: View>(
     view: &V,
@@ -207,15 +222,8 @@ pub fn list<V: View>(
     how: Listing,
     out: &mut impl Write,
 ) -> Result<(), Fault> {
-    let here = ["."];
-    let paths = if paths.is_empty() {
-        here.as_slice()
-    } else {
-        paths
-    };
-    if how.is_json {
-        print_json(view, alloc, told, (folder, paths), how, out)
-    } else {
-        print_all(view, alloc, told, (folder, paths), how, out)
+    if paths.is_empty() {
+        return list_paths(view, alloc, told, (folder, &["."]), how, out);
     }
+    list_paths(view, alloc, told, (folder, paths), how, out)
 }

@@ -7,14 +7,14 @@ use tree_lines::{Fault, Node, Told, View, Visit, Walk, at_bytes, find, shown};
 
 /// What is measured: each number once.
 #[derive(Drop)]
-struct Measure {
+struct Sums {
     /// What has several names and was counted.
     counted: BTreeSet<u32>,
     /// How many blocks each folder holds so far in which the walk is, the first one first.
     sums: Vec<u64>,
 }
 
-impl Measure {
+impl Sums {
     /// Whether a node is still to be counted.
     fn is_new(&mut self, node: &Node) -> Result<bool, AllocError> {
         if node.is_folder() || node.links < 2 {
@@ -42,7 +42,7 @@ impl Measure {
 fn blocks_of<V: View>(
     view: &V,
     alloc: Global,
-    measure: &mut Measure,
+    measure: &mut Sums,
     path: &[u8],
     node: &Node,
 ) -> Result<u64, Fault> {
@@ -72,7 +72,7 @@ fn meet<V: View>(
     view: &V,
     alloc: Global,
     told: &mut Told,
-    measure: &mut Measure,
+    measure: &mut Sums,
     (path, node): (&[u8], &Node),
 ) -> Result<(), Fault> {
     if node.is_folder() {
@@ -92,7 +92,7 @@ fn measure_one<V: View>(
     view: &V,
     alloc: Global,
     told: &mut Told,
-    measure: &mut Measure,
+    measure: &mut Sums,
     (folder, path, is_summary): (u32, &str, bool),
     out: &mut impl Write,
 ) -> Result<(), Fault> {
@@ -109,7 +109,7 @@ fn measure_one<V: View>(
                 Some(Visit::Met(step)) => {
                     meet(view, alloc, told, measure, (walk.path(), &step.node))?;
                 }
-                Some(Visit::Left(_)) => {
+                Some(Visit::Left(_step)) => {
                     let blocks = measure.leave();
                     if !is_summary {
                         print_blocks(alloc, walk.path(), blocks, out)?;
@@ -131,16 +131,14 @@ pub fn measure<V: View>(
     is_summary: bool,
     out: &mut impl Write,
 ) -> Result<(), Fault> {
-    let mut measure = Measure {
+    let mut measure = Sums {
         counted: BTreeSet::new(alloc),
         sums: Vec::new(alloc),
     };
-    let here = ["."];
-    let paths = if paths.is_empty() {
-        here.as_slice()
-    } else {
-        paths
-    };
+    if paths.is_empty() {
+        let given = (folder, ".", is_summary);
+        return measure_one(view, alloc, told, &mut measure, given, out);
+    }
     for path in paths {
         let given = (folder, *path, is_summary);
         let done = measure_one(view, alloc, told, &mut measure, given, out);

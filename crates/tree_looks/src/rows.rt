@@ -51,14 +51,14 @@ pub fn rows_of<V: View>(
 
 /// How many digits a number has.
 fn digits(number: u64) -> usize {
-    let mut count = 1;
+    let mut count = 1usize;
     let mut rest = number;
     for _digit in 0..20 {
         if rest < 10 {
             break;
         }
         rest /= 10;
-        count += 1;
+        count = count.saturating_add(1);
     }
     count
 }

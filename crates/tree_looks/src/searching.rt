@@ -3,7 +3,7 @@
 use crate::globs::Glob;
 use std::alloc::Global;
 use std::io::Write;
-use tree_lines::{Fault, Node, Told, View, Visit, Walk, find, last_name, shown};
+use tree_lines::{Fault, Node, Told, View, Walk, find, last_name, shown};
 use treefs_format::Kind;
 
 /// What is looked for.
@@ -67,13 +67,10 @@ fn search_one<V: View>(
     }
     let mut walk = Walk::below(view, alloc, told, path, node.number)?;
     for _name in 0..u64::MAX {
-        match walk.next(view, alloc, told)? {
-            None => break,
-            Some(Visit::Met(step)) => {
-                print_if(alloc, asked, (walk.path(), &step.name), &step.node, out)?;
-            }
-            Some(Visit::Left(_)) => {}
-        }
+        let Some(step) = walk.next_met(view, alloc, told)? else {
+            break;
+        };
+        print_if(alloc, asked, (walk.path(), &step.name), &step.node, out)?;
     }
     Ok(())
 }
@@ -95,12 +92,9 @@ pub fn search<V: View>(
         name,
         kind: sought.kind,
     };
-    let here = ["."];
-    let paths = if paths.is_empty() {
-        here.as_slice()
-    } else {
-        paths
-    };
+    if paths.is_empty() {
+        return search_one(view, alloc, told, (folder, "."), &asked, out);
+    }
     for path in paths {
         let done = search_one(view, alloc, told, (folder, path), &asked, out);
         told.go_on(done)?;

@@ -3,7 +3,7 @@
 use crate::json::Members;
 use std::alloc::Global;
 use std::io::Write;
-use tree_lines::{Fault, Reason, Told, Usage, View, Visit, Walk, at, find, kind_mark, shown};
+use tree_lines::{Fault, Reason, Told, Usage, View, Walk, at, find, kind_mark, shown};
 
 /// `tree`: all that stands below a folder, each name two spaces further in than its folder's.
 pub fn tree<V: View>(
@@ -19,10 +19,8 @@ pub fn tree<V: View>(
     }
     let mut walk = Walk::below(view, alloc, told, path.as_bytes(), node.number)?;
     for _name in 0..u64::MAX {
-        let step = match walk.next(view, alloc, told)? {
-            None => break,
-            Some(Visit::Met(step)) => step,
-            Some(Visit::Left(_)) => continue,
+        let Some(step) = walk.next_met(view, alloc, told)? else {
+            break;
         };
         for _folder in 0..step.depth {
             write!(out, "  ")?;

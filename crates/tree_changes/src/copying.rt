@@ -1,0 +1,257 @@
+// The word `cp`.
+
+use crate::attributes::attributes_of;
+use crate::copies::{Copied, Copying, copy_file, keep_time};
+use crate::moving::{goal_path, reason_against};
+use flush_store::FlushStore;
+use std::alloc::{AllocError, Global};
+use tree_lines::{
+    Fault, Goal, Node, Opened, Place, Reason, Step, TOP, View, Visit, Walk, at, at_bytes, find,
+    find_to, own_name, there,
+};
+use treefs_session::Mkdir;
+
+/// More folders than stand above one another.
+const MOST_DEPTH: u32 = 262_209_296;
+
+/// Whether a folder is another one or stands below it.
+fn is_below<V: View>(view: &V, alloc: Global, folder: u32, above: u32) -> Result<bool, Reason> {
+    let mut number = folder;
+    for _folder in 0..MOST_DEPTH {
+        if number == above {
+            return Ok(true);
+        }
+        if number == TOP {
+            break;
+        }
+        number = View::find(view, alloc, number, b"..", true)?;
+    }
+    Ok(false)
+}
+
+/// What has the name that a copy is to get, and whose place it may take; the fault is that it may not.
+fn replaced<S: FlushStore + Drop>(
+    opened: &Opened<S>,
+    alloc: Global,
+    copied: &Copied,
+) -> Result<Option<Node>, Fault> {
+    let reason = match there(&opened.session, copied.place) {
+        Ok(Some(other)) => match reason_against(&copied.node, &other) {
+            None => return Ok(Some(other)),
+            Some(reason) => reason,
+        },
+        Ok(None) if copied.place.has_slash && !copied.node.is_folder() => Reason::NoFolder,
+        Ok(None) => return Ok(None),
+        Err(reason) => reason,
+    };
+    Err(at_bytes(alloc, copied.to, reason))
+}
+
+/// The folder to which a folder is copied, and whether it is new; one that is there stays.
+fn copy_folder<S: FlushStore + Drop>(
+    opened: &mut Opened<S>,
+    alloc: Global,
+    copied: &Copied,
+) -> Result<(u32, bool), Fault> {
+    if let Some(other) = replaced(opened, alloc, copied)? {
+        return Ok((other.number, false));
+    }
+    let mkdir = Mkdir {
+        directory: copied.place.folder,
+        name: copied.place.name,
+        attributes: attributes_of(&copied.node),
+    };
+    let number = opened.make_name(alloc, copied.to, &mkdir)?;
+    Ok((number, true))
+}
+
+/// A file or a symbolic link is copied, where nothing is against it.
+fn copy_other<S: FlushStore + Drop>(
+    opened: &mut Opened<S>,
+    alloc: Global,
+    copying: &mut Copying,
+    copied: &Copied,
+) -> Result<(), Fault> {
+    let _other = replaced(opened, alloc, copied)?;
+    copy_file(opened, alloc, copying, copied)
+}
+
+/// The path of a copy below a folder: that of its folder, and what the path of its node has behind that of the first one.
+fn path_below(alloc: Global, to: &[u8], path: &[u8], length: usize) -> Result<Vec<u8>, AllocError> {
+    let mut below = Vec::from_slice(alloc, to)?;
+    let rest = path.get(length..).unwrap_or(&[]);
+    if rest.first() != Some(&b'/') && below.last() != Some(&b'/') {
+        below.push(b'/')?;
+    }
+    below.extend_from_slice(rest)?;
+    Ok(below)
+}
+
+/// A folder to which one is being copied.
+#[derive(Clone, Copy, Debug)]
+struct Into {
+    number: u32,
+    /// Whether it was made for that, so that it gets the time of its node.
+    is_new: bool,
+}
+
+/// Copies what a walk has met into the folder that is the last one; a folder is the last one then. Where that fails it is told, and what is in it is left out.
+fn copy_met<S: FlushStore + Drop>(
+    opened: &mut Opened<S>,
+    alloc: Global,
+    copying: &mut Copying,
+    walk: &mut Walk,
+    (step, to): (&Step, &[u8]),
+    folders: &mut Vec<Option<Into>>,
+) -> Result<(), Fault> {
+    let Some(Some(folder)) = folders.last() else {
+        return Ok(());
+    };
+    let copied = Copied {
+        node: step.node,
+        path: walk.path(),
+        place: Place {
+            folder: folder.number,
+            name: &step.name,
+            has_slash: false,
+        },
+        to,
+    };
+    if !step.node.is_folder() {
+        let done = copy_other(opened, alloc, copying, &copied);
+        return opened.told.go_on(done);
+    }
+    match copy_folder(opened, alloc, &copied) {
+        Ok((number, is_new)) => folders.push(Some(Into { number, is_new }))?,
+        Err(fault) => {
+            opened.told.go_on(Err(fault))?;
+            folders.push(None)?;
+            walk.pass_over();
+        }
+    }
+    Ok(())
+}
+
+/// Leaves a folder that was copied: where it is new it gets the time of its node.
+fn leave_folder<S: FlushStore + Drop>(
+    opened: &mut Opened<S>,
+    alloc: Global,
+    (node, to): (&Node, &[u8]),
+    folder: Option<Into>,
+) -> Result<(), Fault> {
+    match folder {
+        Some(
+            Into {
+                number,
+                is_new: true,
+            },
+        ) => {
+            let copied = Copied {
+                node: *node,
+                path: to,
+                place: Place {
+                    folder: number,
+                    name: to,
+                    has_slash: false,
+                },
+                to,
+            };
+            keep_time(opened, alloc, &copied, number)
+        }
+        _ => Ok(()),
+    }
+}
+
+/// Copies all below a folder into another one.
+fn copy_below<S: FlushStore + Drop>(
+    opened: &mut Opened<S>,
+    alloc: Global,
+    copying: &mut Copying,
+    copied: &Copied,
+    into: Into,
+) -> Result<(), Fault> {
+    let length = copied.path.len();
+    let (view, told) = (&opened.session, &mut opened.told);
+    let mut walk = Walk::below(view, alloc, told, copied.path, copied.node.number)?;
+    let mut folders = Vec::from_array(alloc, [Some(into)])?;
+    for _name in 0..u64::MAX {
+        let Some(visit) = walk.next(&opened.session, alloc, &mut opened.told)? else {
+            break;
+        };
+        let to = path_below(alloc, copied.to, walk.path(), length)?;
+        match visit {
+            Visit::Met(step) => {
+                let met = (&step, to.as_slice());
+                copy_met(opened, alloc, copying, &mut walk, met, &mut folders)?;
+            }
+            Visit::Left(step) => {
+                let folder = folders.pop().unwrap_or(None);
+                let done = leave_folder(opened, alloc, (&step.node, &to), folder);
+                opened.told.go_on(done)?;
+            }
+        }
+    }
+    leave_folder(opened, alloc, (&copied.node, copied.to), Some(into))
+}
+
+/// Copies a folder with all below it. It is not copied into itself.
+fn copy_tree<S: FlushStore + Drop>(
+    opened: &mut Opened<S>,
+    alloc: Global,
+    copying: &mut Copying,
+    copied: &Copied,
+) -> Result<(), Fault> {
+    let view = &opened.session;
+    match is_below(view, alloc, copied.place.folder, copied.node.number) {
+        Ok(false) => {}
+        Ok(true) => return Err(at_bytes(alloc, copied.to, Reason::Cycle)),
+        Err(reason) => return Err(at_bytes(alloc, copied.to, reason)),
+    }
+    let (number, is_new) = copy_folder(opened, alloc, copied)?;
+    copy_below(opened, alloc, copying, copied, Into { number, is_new })
+}
+
+/// Copies what stands at a path.
+fn copy_one<S: FlushStore + Drop>(
+    opened: &mut Opened<S>,
+    alloc: Global,
+    copying: &mut Copying,
+    path: &str,
+    (to, goal): (&str, Goal),
+) -> Result<(), Fault> {
+    let is_followed = !copying.is_recursive;
+    let node = find(&opened.session, alloc, opened.folder, path, is_followed)?;
+    let name = own_name(alloc, path)?;
+    let to = goal_path(alloc, to, goal, name)?;
+    let copied = Copied {
+        node,
+        path: path.as_bytes(),
+        place: goal.place(name),
+        to: &to,
+    };
+    match node.is_folder() {
+        false => copy_other(opened, alloc, copying, &copied),
+        true if copying.is_recursive => copy_tree(opened, alloc, copying, &copied),
+        true => Err(at(alloc, path, Reason::Folder)),
+    }
+}
+
+/// `cp`: copies files into a folder that is there, under their own names, or one to a place of another name; with `is_recursive` also folders with all below
+/// them, whose times and links among each other are kept, and symbolic links as such. Each file has its name once it is whole, and then takes the place of one
+/// that has the name. Holes stay.
+pub fn copy<S: FlushStore + Drop>(
+    opened: &mut Opened<S>,
+    alloc: Global,
+    paths: &[&str],
+    to: &str,
+    is_recursive: bool,
+) -> Result<(), Fault> {
+    let mut copying = Copying::begin(alloc, is_recursive)?;
+    let are_several = paths.len() > 1;
+    for path in paths {
+        let goal = find_to(&opened.session, alloc, opened.folder, to, are_several)?;
+        let done = copy_one(opened, alloc, &mut copying, path, (to, goal));
+        opened.told.go_on(done)?;
+    }
+    Ok(())
+}

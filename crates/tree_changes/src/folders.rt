@@ -1,0 +1,110 @@
+// The words `mkdir` and `rmdir`.
+
+use crate::attributes::attributes_with;
+use flush_store::FlushStore;
+use std::alloc::Global;
+use tree_lines::{Fault, Opened, Reason, View, at, place_of};
+use treefs_session::{Mkdir, Rmdir};
+
+/// The permissions of a new folder.
+const PERMISSIONS: u16 = 0o755;
+
+/// Makes the folder of a path, in a folder that is there.
+fn make_folder<S: FlushStore + Drop>(
+    opened: &mut Opened<S>,
+    alloc: Global,
+    path: &str,
+) -> Result<(), Fault> {
+    let place = place_of(&opened.session, alloc, opened.folder, path)?;
+    let mkdir = Mkdir {
+        directory: place.folder,
+        name: place.name,
+        attributes: attributes_with(PERMISSIONS),
+    };
+    let _number = opened.make_name(alloc, path.as_bytes(), &mkdir)?;
+    Ok(())
+}
+
+/// Makes the folder of a path, if it is not there.
+fn make_missing<S: FlushStore + Drop>(
+    opened: &mut Opened<S>,
+    alloc: Global,
+    path: &str,
+) -> Result<(), Fault> {
+    let view = &opened.session;
+    let found = match View::find(view, alloc, opened.folder, path.as_bytes(), true) {
+        Ok(number) => view.node(number),
+        Err(reason) => Err(reason),
+    };
+    match found {
+        Ok(node) if node.is_folder() => Ok(()),
+        Ok(_) => Err(at(alloc, path, Reason::NoFolder)),
+        Err(Reason::Missing) => make_folder(opened, alloc, path),
+        Err(reason) => Err(at(alloc, path, reason)),
+    }
+}
+
+/// Makes the folder of a path, and those above it that are not there.
+fn make_with_parents<S: FlushStore + Drop>(
+    opened: &mut Opened<S>,
+    alloc: Global,
+    path: &str,
+) -> Result<(), Fault> {
+    for (end, byte) in path.bytes().enumerate() {
+        if byte == b'/'
+            && end > 0
+            && let Some(front) = path.get(..end)
+        {
+            make_missing(opened, alloc, front)?;
+        }
+    }
+    if path.is_empty() {
+        return make_folder(opened, alloc, path);
+    }
+    make_missing(opened, alloc, path)
+}
+
+/// `mkdir`: makes folders; with `has_parents` also those above them that are not there, and no fault is one that is there.
+pub fn make_folders<S: FlushStore + Drop>(
+    opened: &mut Opened<S>,
+    alloc: Global,
+    paths: &[&str],
+    has_parents: bool,
+) -> Result<(), Fault> {
+    for path in paths {
+        let done = if has_parents {
+            make_with_parents(opened, alloc, path)
+        } else {
+            make_folder(opened, alloc, path)
+        };
+        opened.told.go_on(done)?;
+    }
+    Ok(())
+}
+
+/// Gives up the empty folder of a path.
+fn remove_folder<S: FlushStore + Drop>(
+    opened: &mut Opened<S>,
+    alloc: Global,
+    path: &str,
+) -> Result<(), Fault> {
+    let place = place_of(&opened.session, alloc, opened.folder, path)?;
+    let rmdir = Rmdir {
+        directory: place.folder,
+        name: place.name,
+    };
+    opened.make(alloc, path.as_bytes(), &rmdir)
+}
+
+/// `rmdir`: gives empty folders up.
+pub fn remove_folders<S: FlushStore + Drop>(
+    opened: &mut Opened<S>,
+    alloc: Global,
+    paths: &[&str],
+) -> Result<(), Fault> {
+    for path in paths {
+        let done = remove_folder(opened, alloc, path);
+        opened.told.go_on(done)?;
+    }
+    Ok(())
+}

@@ -1,0 +1,111 @@
+// The word `mv`.
+
+use flush_store::FlushStore;
+use std::alloc::{AllocError, Global};
+use tree_lines::{
+    Fault, Goal, Node, Opened, Place, Reason, at, at_bytes, below, find_to, own_name, place_of,
+    there,
+};
+use treefs_session::Rename;
+
+/// The path of what goes to a goal that is told by a path.
+pub fn goal_path(alloc: Global, to: &str, goal: Goal, name: &[u8]) -> Result<Vec<u8>, AllocError> {
+    match goal {
+        Goal::Into(_) => below(alloc, to.as_bytes(), name),
+        Goal::To(_) => Vec::from_slice(alloc, to.as_bytes()),
+    }
+}
+
+/// Why something can't take the place of what has a name, if it can't.
+pub fn reason_against(node: &Node, other: &Node) -> Option<Reason> {
+    if node.number == other.number {
+        return Some(Reason::Same);
+    }
+    match (node.is_folder(), other.is_folder()) {
+        (true, false) => Some(Reason::NoFolder),
+        (false, true) => Some(Reason::Folder),
+        _ => None,
+    }
+}
+
+/// What stands at a path that is to be moved.
+fn find_moved<S: FlushStore + Drop>(
+    opened: &Opened<S>,
+    alloc: Global,
+    path: &str,
+    from: Place,
+) -> Result<Node, Fault> {
+    match there(&opened.session, from) {
+        Ok(Some(node)) if from.has_slash && !node.is_folder() => {
+            Err(at(alloc, path, Reason::NoFolder))
+        }
+        Ok(Some(node)) => Ok(node),
+        Ok(None) => Err(at(alloc, path, Reason::Missing)),
+        Err(reason) => Err(at(alloc, path, reason)),
+    }
+}
+
+/// Whether something has the name that something else is to get; the fault is that it can't take its place.
+fn is_taken<S: FlushStore + Drop>(
+    opened: &Opened<S>,
+    alloc: Global,
+    path: &[u8],
+    place: Place,
+    node: &Node,
+) -> Result<bool, Fault> {
+    match there(&opened.session, place) {
+        Ok(Some(other)) => match reason_against(node, &other) {
+            Some(reason) => Err(at_bytes(alloc, path, reason)),
+            None => Ok(true),
+        },
+        Ok(None) if place.has_slash && !node.is_folder() => {
+            Err(at_bytes(alloc, path, Reason::NoFolder))
+        }
+        Ok(None) => Ok(false),
+        Err(reason) => Err(at_bytes(alloc, path, reason)),
+    }
+}
+
+/// Moves what stands at a path.
+fn move_one<S: FlushStore + Drop>(
+    opened: &mut Opened<S>,
+    alloc: Global,
+    path: &str,
+    (to, goal): (&str, Goal),
+) -> Result<(), Fault> {
+    let from = place_of(&opened.session, alloc, opened.folder, path)?;
+    let name = own_name(alloc, path)?;
+    let node = find_moved(opened, alloc, path, from)?;
+    let place = goal.place(name);
+    let goal_path = goal_path(alloc, to, goal, name)?;
+    let is_taken = is_taken(opened, alloc, &goal_path, place, &node)?;
+    let told_path = if is_taken {
+        goal_path.as_slice()
+    } else {
+        path.as_bytes()
+    };
+    let rename = Rename {
+        directory: from.folder,
+        name: from.name,
+        new_directory: place.folder,
+        new_name: place.name,
+    };
+    opened.make_name(alloc, told_path, &rename)
+}
+
+/// `mv`: moves files, folders and symbolic links into a folder that is there, under their own names, or gives one another name. A file takes the place of one
+/// that has the name, and a folder that of an empty one.
+pub fn rename<S: FlushStore + Drop>(
+    opened: &mut Opened<S>,
+    alloc: Global,
+    paths: &[&str],
+    to: &str,
+) -> Result<(), Fault> {
+    let are_several = paths.len() > 1;
+    for path in paths {
+        let goal = find_to(&opened.session, alloc, opened.folder, to, are_several)?;
+        let done = move_one(opened, alloc, path, (to, goal));
+        opened.told.go_on(done)?;
+    }
+    Ok(())
+}

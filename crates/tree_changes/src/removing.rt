@@ -1,0 +1,167 @@
+// The word `rm`.
+
+use flush_store::FlushStore;
+use std::alloc::Global;
+use tree_lines::{Fault, Opened, Place, Reason, Step, Visit, Walk, at, own_name, place_of, there};
+use treefs_session::{Rmdir, Unlink};
+
+/// How `rm` removes.
+#[derive(Clone, Copy, Debug)]
+pub struct Removing {
+    /// Folders with all below them, too.
+    pub is_recursive: bool,
+    /// What is not there is no fault.
+    pub is_forced: bool,
+}
+
+/// Takes the name of a file or a symbolic link.
+fn unlink<S: FlushStore + Drop>(
+    opened: &mut Opened<S>,
+    alloc: Global,
+    path: &[u8],
+    (directory, name): (u32, &[u8]),
+) -> Result<(), Fault> {
+    opened.make(alloc, path, &Unlink { directory, name })
+}
+
+/// Takes the name of an empty folder.
+fn end_folder<S: FlushStore + Drop>(
+    opened: &mut Opened<S>,
+    alloc: Global,
+    path: &[u8],
+    (directory, name): (u32, &[u8]),
+) -> Result<(), Fault> {
+    opened.make(alloc, path, &Rmdir { directory, name })
+}
+
+/// Whether a fault is that of a folder in which something is left.
+fn is_left(fault: &Fault) -> bool {
+    matches!(
+        fault,
+        Fault::At {
+            path: _,
+            reason: Reason::NotEmpty
+        }
+    )
+}
+
+/// Removes what a walk has come to: a folder once all in it was removed. Answers whether it was removed, or why not; that something is left in a folder is not
+/// told, where that was told before.
+fn remove_step<S: FlushStore + Drop>(
+    opened: &mut Opened<S>,
+    alloc: Global,
+    walk: &Walk,
+    (step, is_left_behind): (&Step, bool),
+    is_whole: bool,
+) -> Result<bool, Fault> {
+    let place = (step.folder, step.name.as_slice());
+    let done = if is_left_behind {
+        end_folder(opened, alloc, walk.path(), place)
+    } else {
+        unlink(opened, alloc, walk.path(), place)
+    };
+    match done {
+        Ok(()) => Ok(true),
+        Err(fault) if !is_whole && is_left(&fault) => Ok(false),
+        Err(fault) => {
+            opened.told.go_on(Err(fault))?;
+            Ok(false)
+        }
+    }
+}
+
+/// Removes all below a folder, and answers whether nothing is left. Faults are told.
+fn empty_folder<S: FlushStore + Drop>(
+    opened: &mut Opened<S>,
+    alloc: Global,
+    path: &str,
+    folder: u32,
+) -> Result<bool, Fault> {
+    let mut is_whole = true;
+    let (view, told) = (&opened.session, &mut opened.told);
+    let mut walk = Walk::below(view, alloc, told, path.as_bytes(), folder)?;
+    for _name in 0..u64::MAX {
+        let (step, is_behind) = match walk.next(&opened.session, alloc, &mut opened.told)? {
+            None => break,
+            Some(Visit::Met(step)) => (step, false),
+            Some(Visit::Left(step)) => (step, true),
+        };
+        if step.node.is_folder() && !is_behind {
+            continue;
+        }
+        let is_removed = remove_step(opened, alloc, &walk, (&step, is_behind), is_whole)?;
+        is_whole = is_whole && is_removed;
+    }
+    Ok(is_whole)
+}
+
+/// Removes what has a name that is there.
+fn remove_named<S: FlushStore + Drop>(
+    opened: &mut Opened<S>,
+    alloc: Global,
+    path: &str,
+    place: Place,
+    how: Removing,
+) -> Result<(), Fault> {
+    let node = match there(&opened.session, place) {
+        Ok(Some(node)) => node,
+        Ok(None) if how.is_forced => return Ok(()),
+        Ok(None) => return Err(at(alloc, path, Reason::Missing)),
+        Err(reason) => return Err(at(alloc, path, reason)),
+    };
+    let named = (place.folder, place.name);
+    match node.is_folder() {
+        false if place.has_slash => Err(at(alloc, path, Reason::NoFolder)),
+        false => unlink(opened, alloc, path.as_bytes(), named),
+        true if !how.is_recursive => Err(at(alloc, path, Reason::Folder)),
+        true => {
+            if empty_folder(opened, alloc, path, node.number)? {
+                end_folder(opened, alloc, path.as_bytes(), named)
+            } else {
+                Ok(())
+            }
+        }
+    }
+}
+
+/// Whether a fault is that of a path that leads to nothing.
+fn is_missing(fault: &Fault) -> bool {
+    match fault {
+        Fault::At {
+            path: _,
+            reason: Reason::Missing | Reason::NoFolder,
+        } => true,
+        _ => false,
+    }
+}
+
+/// Removes what stands at a path.
+fn remove_one<S: FlushStore + Drop>(
+    opened: &mut Opened<S>,
+    alloc: Global,
+    path: &str,
+    how: Removing,
+) -> Result<(), Fault> {
+    match place_of(&opened.session, alloc, opened.folder, path) {
+        Ok(place) => {
+            let _own = own_name(alloc, path)?;
+            remove_named(opened, alloc, path, place, how)
+        }
+        Err(fault) if how.is_forced && is_missing(&fault) => Ok(()),
+        Err(fault) => Err(fault),
+    }
+}
+
+/// `rm`: takes names of files and symbolic links, and gives up folders with all below them where that is asked. The top folder stays.
+pub fn remove<S: FlushStore + Drop>(
+    opened: &mut Opened<S>,
+    alloc: Global,
+    paths: &[&str],
+    how: Removing,
+) -> Result<(), Fault> {
+    for path in paths {
+        let done = remove_one(opened, alloc, path, how);
+        opened.told.go_on(done)?;
+    }
+    Ok(())
+}

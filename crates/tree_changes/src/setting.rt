@@ -1,0 +1,107 @@
+// The words `chmod` and `chown`.
+
+use crate::modes::Modes;
+use crate::owners::Owners;
+use flush_store::FlushStore;
+use std::alloc::Global;
+use tree_lines::{Fault, Node, Opened, Walk, find};
+use treefs_byte_plans::Attributes;
+use treefs_session::SetAttributes;
+
+/// What is set.
+#[derive(Debug, Drop)]
+pub enum Setting {
+    Modes(Modes),
+    Owners(Owners),
+}
+
+impl Setting {
+    /// What is set of a node; nothing of the modes of symbolic links.
+    fn attributes_of(&self, node: &Node) -> Option<Attributes> {
+        match self {
+            Setting::Modes(_) if node.is_link() => None,
+            Setting::Modes(modes) => Some(Attributes {
+                permissions: Some(modes.apply(node.permissions, node.is_folder())),
+                owner: None,
+                mtime: None,
+            }),
+            Setting::Owners(owners) => Some(Attributes {
+                permissions: None,
+                owner: Some(owners.owner_of(node)),
+                mtime: None,
+            }),
+        }
+    }
+}
+
+/// Sets what is to be set of a node.
+fn set_node<S: FlushStore + Drop>(
+    opened: &mut Opened<S>,
+    alloc: Global,
+    path: &[u8],
+    node: &Node,
+    setting: &Setting,
+) -> Result<(), Fault> {
+    match setting.attributes_of(node) {
+        Some(settings) => {
+            let set = SetAttributes {
+                number: node.number,
+                settings,
+            };
+            opened.make(alloc, path, &set)
+        }
+        None => Ok(()),
+    }
+}
+
+/// Sets what is to be set of all that stands below a folder. Faults are told.
+fn set_below<S: FlushStore + Drop>(
+    opened: &mut Opened<S>,
+    alloc: Global,
+    path: &str,
+    folder: u32,
+    setting: &Setting,
+) -> Result<(), Fault> {
+    let (view, told) = (&opened.session, &mut opened.told);
+    let mut walk = Walk::below(view, alloc, told, path.as_bytes(), folder)?;
+    for _name in 0..u64::MAX {
+        let Some(step) = walk.next_met(&opened.session, alloc, &mut opened.told)? else {
+            break;
+        };
+        let done = set_node(opened, alloc, walk.path(), &step.node, setting);
+        opened.told.go_on(done)?;
+    }
+    Ok(())
+}
+
+/// Sets what is to be set at a path, and below it where that is asked.
+fn set_one<S: FlushStore + Drop>(
+    opened: &mut Opened<S>,
+    alloc: Global,
+    path: &str,
+    setting: &Setting,
+    is_recursive: bool,
+) -> Result<(), Fault> {
+    let node = find(&opened.session, alloc, opened.folder, path, true)?;
+    set_node(opened, alloc, path.as_bytes(), &node, setting)?;
+    if is_recursive && node.is_folder() {
+        return set_below(opened, alloc, path, node.number, setting);
+    }
+    Ok(())
+}
+
+/// `chmod` and `chown`: sets modes or owners at some paths, over symbolic links, and with `is_recursive` of all below them, where symbolic links are not
+/// followed.
+pub fn set_attributes<S: FlushStore + Drop>(
+    opened: &mut Opened<S>,
+    alloc: Global,
+    paths: &[&str],
+    setting: &Setting,
+    is_recursive: bool,
+) -> Result<(), Fault> {
+    for path in paths {
+        let done = set_one(opened, alloc, path, setting, is_recursive);
+        opened.told.go_on(done)?;
+    }
+    Ok(())
+}
