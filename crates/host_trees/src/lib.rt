@@ -1,0 +1,18 @@
+//! The files of the system as a tree: what stands at a path with its attributes, bytes that are read in pieces, files that are replaced as a whole, folders and
+//! links, behind a trait, so that a test can stand in for the system.
+//!
+//! Of these functions it is proved that they are safe and end. That the system's own calls are what `real` takes them for is to be read, and not proved.
+//! May touch: memory, files, clock.
+#![tactic(auto)]
+
+mod attributes;
+mod host;
+mod linking;
+mod real;
+mod sink;
+mod writing;
+
+pub use attributes::{Attributes, Kind, Settings};
+pub use host::{Host, Names};
+pub use real::RealHost;
+pub use sink::{Filler, PlainSink, Sink};

@@ -1,0 +1,233 @@
+// One file or symbolic link of a volume that is brought out.
+
+use crate::filling::Outgoing;
+use crate::pieces::PIECE;
+use crate::progress::Progress;
+use host_trees::{Attributes, Host, Kind, Settings};
+use std::alloc::{AllocError, Global};
+use std::collections::BTreeMap;
+use std::io::ErrorKind;
+use std::str;
+use system_files::{Links, WriteFault};
+use tree_lines::{Fault, Node, Reason, Told, View, at, at_bytes, not_written, system};
+
+/// What a line that brings files out keeps.
+pub struct Leaving<'v, V: View, H: Host> {
+    pub view: &'v V,
+    pub host: &'v H,
+    pub alloc: Global,
+    pub told: &'v mut Told,
+    /// Whether permissions, owner and time are set.
+    pub keeps_attributes: bool,
+    pub progress: Progress,
+    /// Room for a piece.
+    piece: Vec<u8>,
+    /// Where files with several names were brought to, by their numbers.
+    linked: BTreeMap<u32, String>,
+}
+
+impl<'v, V: View, H: Host> Drop for Leaving<'v, V, H> {
+    fn drop(self) {
+        let Leaving {
+            view: _,
+            host: _,
+            alloc: _,
+            told: _,
+            keeps_attributes: _,
+            progress: _,
+            piece: _,
+            linked: _,
+        } = self;
+    }
+}
+
+impl<'v, V: View, H: Host> Leaving<'v, V, H> {
+    /// Nothing is brought out yet.
+    pub fn begin(
+        view: &'v V,
+        host: &'v H,
+        alloc: Global,
+        told: &'v mut Told,
+        keeps_attributes: bool,
+    ) -> Result<Leaving<'v, V, H>, AllocError> {
+        Ok(Leaving {
+            view,
+            host,
+            alloc,
+            told,
+            keeps_attributes,
+            progress: Progress::begin(host),
+            piece: vec![in alloc; 0u8; PIECE]?,
+            linked: BTreeMap::new(alloc),
+        })
+    }
+
+    /// Takes the line of progress away.
+    pub fn end(self) {
+        let Leaving {
+            view: _,
+            host,
+            alloc: _,
+            told: _,
+            keeps_attributes: _,
+            progress,
+            piece: _,
+            linked: _,
+        } = self;
+        progress.end(host);
+    }
+
+    /// What is set of what is brought out.
+    pub fn settings_of(&self, node: &Node) -> Option<Settings> {
+        if self.keeps_attributes {
+            Some(Settings {
+                permissions: node.permissions,
+                uid: node.uid,
+                gid: node.gid,
+                modified: node.modified,
+            })
+        } else {
+            None
+        }
+    }
+
+    /// What stands at a path of the system, if something does. No link is followed.
+    pub fn attributes_at(&self, target: &str) -> Result<Option<Attributes>, Fault> {
+        match self.host.attributes(target) {
+            Ok(attributes) => Ok(Some(attributes)),
+            Err(error) if error.kind() == ErrorKind::NotFound => Ok(None),
+            Err(error) => Err(system(self.alloc, target.as_bytes(), error)),
+        }
+    }
+
+    /// The bytes of a file of the volume, as they are written out.
+    pub fn outgoing(&mut self, node: &Node) -> Outgoing<'_, V, H> {
+        Outgoing {
+            view: self.view,
+            host: self.host,
+            alloc: self.alloc,
+            number: node.number,
+            size: node.size,
+            piece: &mut self.piece,
+            progress: &mut self.progress,
+            fault: None,
+        }
+    }
+
+    /// Writes a file of the system that has the bytes of one of the volume.
+    fn write(&mut self, node: &Node, path: &[u8], target: &str, links: Links) -> Result<(), Fault> {
+        let (alloc, host) = (self.alloc, self.host);
+        let settings = self.settings_of(node);
+        let mut outgoing = self.outgoing(node);
+        let done = host.write_file(target, links, settings.as_ref(), &mut outgoing);
+        let fault = outgoing.fault;
+        match (fault, done) {
+            (Some(reason), _) => Err(at_bytes(alloc, path, reason)),
+            (None, Ok(())) => Ok(()),
+            (None, Err(fault)) => Err(not_written(alloc, target.as_bytes(), fault)),
+        }
+    }
+
+    /// Gives a file that was brought out one more name, where that can be. Answers whether it has it.
+    fn link(&mut self, old: &str, target: &str) -> Result<bool, Fault> {
+        let is_over = match self.attributes_at(target)? {
+            None => false,
+            Some(there) if there.kind == Kind::File => {
+                if self
+                    .attributes_at(old)?
+                    .is_some_and(|first| first.is_same(&there))
+                {
+                    return Ok(true);
+                }
+                true
+            }
+            Some(_) => return Ok(false),
+        };
+        match self.host.make_hard_link(self.alloc, old, target, is_over) {
+            Ok(()) => Ok(true),
+            Err(WriteFault::System(_)) => Ok(false),
+            Err(fault) => Err(not_written(self.alloc, target.as_bytes(), fault)),
+        }
+    }
+
+    /// Brings a file out that has several names.
+    fn bring_linked(
+        &mut self,
+        node: &Node,
+        path: &[u8],
+        target: &str,
+        links: Links,
+    ) -> Result<(), Fault> {
+        let alloc = self.alloc;
+        let old = match self.linked.get(&node.number) {
+            Some(old) => Some(String::from_str(alloc, old.as_str())?),
+            None => None,
+        };
+        if let Some(old) = old
+            && self.link(old.as_str(), target)?
+        {
+            return Ok(());
+        }
+        self.write(node, path, target, links)?;
+        let target = String::from_str(alloc, target)?;
+        let _old = self.linked.insert(node.number, target)?;
+        Ok(())
+    }
+
+    /// Brings a file out to a path of the system; one that is there is replaced as a whole.
+    pub fn bring_file(
+        &mut self,
+        node: &Node,
+        path: &[u8],
+        target: &str,
+        links: Links,
+    ) -> Result<(), Fault> {
+        if node.links > 1 {
+            self.bring_linked(node, path, target, links)?;
+        } else {
+            self.write(node, path, target, links)?;
+        }
+        self.progress.add_file(self.host, self.alloc);
+        Ok(())
+    }
+
+    /// The same below a folder that is filled: a device or the like that is there stays as it is.
+    pub fn bring_file_below(
+        &mut self,
+        node: &Node,
+        path: &[u8],
+        target: &str,
+    ) -> Result<(), Fault> {
+        match self.attributes_at(target)? {
+            Some(there) if there.kind == Kind::Other => {
+                Err(at(self.alloc, target, Reason::Special))
+            }
+            _ => self.bring_file(node, path, target, Links::Refused),
+        }
+    }
+
+    /// Brings a symbolic link out; one that is there is replaced.
+    pub fn bring_link(&mut self, node: &Node, path: &[u8], target: &str) -> Result<(), Fault> {
+        let alloc = self.alloc;
+        let leads = match self.view.target(alloc, node.number) {
+            Ok(leads) => leads,
+            Err(reason) => return Err(at_bytes(alloc, path, reason)),
+        };
+        let Ok(leads) = str::from_utf8(&leads) else {
+            return Err(at_bytes(alloc, path, Reason::NotText));
+        };
+        let is_over = match self.attributes_at(target)? {
+            None => false,
+            Some(there) if there.kind == Kind::SymbolicLink => true,
+            Some(_) => return Err(at(alloc, target, Reason::There)),
+        };
+        let settings = self.settings_of(node);
+        match self
+            .host
+            .make_symbolic_link(alloc, leads, target, is_over, settings.as_ref())
+        {
+            Ok(()) => Ok(()),
+            Err(error) => Err(system(alloc, target.as_bytes(), error)),
+        }
+    }
+}

@@ -1,0 +1,205 @@
+// A folder of a volume with all below it is brought out.
+
+use crate::leaving::Leaving;
+use crate::naming::{SystemName, joined, system_name};
+use host_trees::{Host, Kind, Settings};
+use std::alloc::Global;
+use system_files::WriteFault;
+use tree_lines::{
+    Fault, Node, Reason, Step, View, Visit, Walk, at, at_bytes, not_written, shown, system,
+};
+use treefs_format::Kind as NodeKind;
+
+/// A folder of the system that is filled.
+#[derive(Debug, Drop)]
+struct Filled {
+    target: String,
+    /// What is set of it once it is full.
+    settings: Option<Settings>,
+}
+
+/// What a name is called in a folder of the system. Where that is not the same it is told.
+pub fn told_name<V: View, H: Host>(
+    leaving: &mut Leaving<V, H>,
+    path: &[u8],
+    name: &[u8],
+) -> Result<String, Fault> {
+    let alloc = leaving.alloc;
+    match system_name(alloc, name)? {
+        SystemName::Same(name) => Ok(name),
+        SystemName::Escaped(name) => {
+            let word = shown(alloc, path)?;
+            let wanted = "gets this name in the system, escaped";
+            leaving.told.tell(Fault::Word { word, wanted })?;
+            Ok(name)
+        }
+        SystemName::Bad => Err(at_bytes(alloc, path, Reason::BadName)),
+    }
+}
+
+/// Makes a folder of the system, which may be there, but not as a link to one.
+fn make_folder<V: View, H: Host>(leaving: &Leaving<V, H>, target: &str) -> Result<(), Fault> {
+    let alloc = leaving.alloc;
+    match leaving.attributes_at(target)? {
+        None => match leaving.host.make_folder(target) {
+            Ok(()) => Ok(()),
+            Err(error) => Err(system(alloc, target.as_bytes(), error)),
+        },
+        Some(there) => match there.kind {
+            Kind::Folder => Ok(()),
+            Kind::SymbolicLink => Err(not_written(alloc, target.as_bytes(), WriteFault::Link)),
+            Kind::File | Kind::Other => Err(at(alloc, target, Reason::NoFolder)),
+        },
+    }
+}
+
+/// Sets what is to be set of a folder that is full.
+fn settle<V: View, H: Host>(leaving: &mut Leaving<V, H>, folder: Filled) -> Result<(), Fault> {
+    let Some(settings) = &folder.settings else {
+        return Ok(());
+    };
+    let target = folder.target.as_str();
+    match leaving.host.set_folder(target, settings) {
+        Ok(()) => Ok(()),
+        Err(error) => {
+            let fault = system(leaving.alloc, target.as_bytes(), error);
+            leaving.told.go_on(Err(fault))
+        }
+    }
+}
+
+/// Brings a name below a folder out. Answers the folder of the system that it is, where it is one.
+fn bring_step<V: View, H: Host>(
+    leaving: &mut Leaving<V, H>,
+    folder: &str,
+    path: &[u8],
+    step: &Step,
+) -> Result<Option<Filled>, Fault> {
+    let name = told_name(leaving, path, &step.name)?;
+    let target = joined(leaving.alloc, folder, name.as_str())?;
+    match step.node.kind {
+        NodeKind::File => leaving.bring_file_below(&step.node, path, target.as_str())?,
+        NodeKind::SymbolicLink => leaving.bring_link(&step.node, path, target.as_str())?,
+        NodeKind::Directory => {
+            make_folder(leaving, target.as_str())?;
+            let settings = leaving.settings_of(&step.node);
+            return Ok(Some(Filled { target, settings }));
+        }
+    }
+    Ok(None)
+}
+
+/// What a walk out of a volume is in: folders of the system that are filled, and for those that could not be made nothing.
+#[derive(Drop)]
+struct Folders {
+    folders: Vec<Option<Filled>>,
+}
+
+impl Folders {
+    /// The path of the one that is filled.
+    fn last(&self, alloc: Global) -> Result<Option<String>, Fault> {
+        match self.folders.last() {
+            Some(Some(folder)) => Ok(Some(String::from_str(alloc, folder.target.as_str())?)),
+            _ => Ok(None),
+        }
+    }
+}
+
+/// Brings a name out that a walk has met.
+fn meet<V: View, H: Host>(
+    leaving: &mut Leaving<V, H>,
+    folders: &mut Folders,
+    walk: &mut Walk,
+    step: &Step,
+) -> Result<(), Fault> {
+    let Some(folder) = folders.last(leaving.alloc)? else {
+        walk.pass_over();
+        if step.node.is_folder() {
+            folders.folders.push(None)?;
+        }
+        return Ok(());
+    };
+    let made = match bring_step(leaving, folder.as_str(), walk.path(), step) {
+        Ok(made) => made,
+        Err(fault) => {
+            leaving.told.go_on(Err(fault))?;
+            None
+        }
+    };
+    if step.node.is_folder() {
+        if made.is_none() {
+            walk.pass_over();
+        }
+        folders.folders.push(made)?;
+    }
+    Ok(())
+}
+
+/// Brings all below a folder out, name by name; folders are settled behind what is in them.
+fn bring_all<V: View, H: Host>(
+    leaving: &mut Leaving<V, H>,
+    folders: &mut Folders,
+    walk: &mut Walk,
+) -> Result<(), Fault> {
+    for _ in 0..u64::MAX {
+        let visit = walk.next(leaving.view, leaving.alloc, leaving.told)?;
+        match visit {
+            Some(Visit::Met(step)) => meet(leaving, folders, walk, &step)?,
+            Some(Visit::Left(_)) => {
+                if let Some(Some(folder)) = folders.folders.pop() {
+                    settle(leaving, folder)?;
+                }
+            }
+            None => break,
+        }
+    }
+    Ok(())
+}
+
+/// Fills a folder of the system with all below one of a volume. It gets the attributes of that one where it was made for it.
+pub fn fill_folder<V: View, H: Host>(
+    leaving: &mut Leaving<V, H>,
+    path: &[u8],
+    node: &Node,
+    target: &str,
+    is_made: bool,
+) -> Result<(), Fault> {
+    let alloc = leaving.alloc;
+    let settings = if is_made {
+        leaving.settings_of(node)
+    } else {
+        None
+    };
+    let mut folders = Folders {
+        folders: Vec::new(alloc),
+    };
+    folders.folders.push(Some(Filled {
+        target: String::from_str(alloc, target)?,
+        settings,
+    }))?;
+    let mut walk = Walk::below(leaving.view, alloc, leaving.told, path, node.number)?;
+    bring_all(leaving, &mut folders, &mut walk)?;
+    if let Some(Some(folder)) = folders.folders.pop() {
+        settle(leaving, folder)?;
+    }
+    Ok(())
+}
+
+/// Makes a folder of the system, with those above it, where none is, and answers whether it was made. A link to one may be there.
+pub fn make_target<H: Host>(host: &H, alloc: Global, target: &str) -> Result<bool, Fault> {
+    match host.attributes_through(target) {
+        Ok(there) if there.kind == Kind::Folder => Ok(false),
+        Ok(_) => Err(at(alloc, target, Reason::NoFolder)),
+        Err(_) => match host.make_folders(target) {
+            Ok(()) => Ok(true),
+            Err(error) => Err(system(alloc, target.as_bytes(), error)),
+        },
+    }
+}
+
+/// Makes a folder of the system below one that is there, and answers whether it was made.
+pub fn make_below<V: View, H: Host>(leaving: &Leaving<V, H>, target: &str) -> Result<bool, Fault> {
+    let is_there = leaving.attributes_at(target)?.is_some();
+    make_folder(leaving, target)?;
+    Ok(!is_there)
+}
