@@ -114,8 +114,8 @@ BODIES = {
     ),
     "block_0_is_written_first": Body(
         FOUND_BLOCK, ["xnfs"],
-        "        file.write_all_at(rest, BLOCK_LEN as u64)?;\n        file.sync_all()?;\n        file.write_all_at(first, 0)?;\n",
-        "        file.write_all_at(first, 0)?;\n        file.sync_all()?;\n        file.write_all_at(rest, BLOCK_LEN as u64)?;\n",
+        "    file.write_all_at(rest, BLOCK_LEN as u64)?;\n",
+        "    file.write_all_at(first, 0)?;\n    file.sync_all()?;\n    file.write_all_at(rest, BLOCK_LEN as u64)?;\n",
         ["block_0_of_a_new_disk_is_written_last"],
     ),
     "read_asks_no_file": Body(
@@ -127,9 +127,15 @@ BODIES = {
     ),
     "open_finds_32_blocks": Body(
         OPENING, [],
-        "found_lanes(alloc, &file, &opened, blocks)?;",
-        "found_lanes(alloc, &file, &opened, blocks.min(32))?;",
+        "file.find_image(alloc, blocks)?;",
+        "file.find_image(alloc, blocks.min(32))?;",
         ["a_file_has_what_is_written_to_its_lanes"],
+    ),
+    "last_piece_is_not_read": Body(
+        FOUND_BLOCK, [],
+        "        for piece in 0..len.div_ceil(PIECE_LEN) {\n",
+        "        for piece in 0..len / PIECE_LEN {\n",
+        ["a_long_file_is_read_to_its_end"],
     ),
     "make_empties_what_is_there": Body(
         OPENING, [],

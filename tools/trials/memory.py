@@ -6,8 +6,11 @@ it was or as it is to be. Each command that a refusal met is then given a second
 
 Then it runs the program `fault_runs` in the same way, with the word `memory`: it makes calls again that find no memory, and prints the same each
 time, but for how many values there was no memory at once: none in a run that meets no refusal, and one at most in another.
-Last it refuses every request of that program from the first one on that comes behind its line on calls that take no memory: none may come, and
+Then it refuses every request of that program from the first one on that comes behind its line on calls that take no memory: none may come, and
 these calls have to do what they should.
+
+Last it runs the program `random_calls` on its disk whose groups of places come and go, with each request refused in turn: no answer may be another than
+what scans of a plain record say, in which a call that found no memory has done nothing; or the program itself ends for want of memory.
 
 Requests are refused by a library of a few lines in C that is loaded before the C library. So a C compiler has to be there.
 """
@@ -24,6 +27,8 @@ from trials.tally import Tally
 
 # The word by which it makes only the calls that ask for memory, and how its first line behind those begins.
 ALONE, BEHIND = "memory", "drains:"
+# How many calls of the other program make groups of places come and go, how its last line says that all is right, and what it says where it has no memory.
+GROUP_CALLS, ALL_RIGHT, NONE_LEFT = "1200", " answers, 0 wrong,", "Error: Kind(OutOfMemory)"
 TOLD = "request refused"
 SPARE = "calls that take no memory:"
 AT_ONCE = "values for which there was no memory at once: "
@@ -186,6 +191,17 @@ class Refusals:
                 break
         self.spare_calls(path, right, number)
 
+    def groups(self):
+        """Refuses each request in turn of the program whose groups of places come and go."""
+        path = program("random_calls")
+        for number in itertools.count(1):
+            ended = Ended([GROUP_CALLS], self.folder, self.library, number, path=path)
+            is_whole = (ended.status, ended.err) == (0, []) and ALL_RIGHT in ended.out[-1]
+            is_ended = ended.is_refused and (ended.status, ended.err, ended.out) == (1, [NONE_LEFT], [])
+            self.note(f"groups, request {number}", ended, is_whole or is_ended)
+            if not ended.is_refused:
+                return
+
     def spare_calls(self, path, right, above):
         """Refuses every request of the program from the first one on that isn't made before its line on calls that take no memory."""
 
@@ -223,4 +239,5 @@ def play():
         for given in lines():
             refusals.line(*given)
         refusals.calls()
+        refusals.groups()
     return refusals.tally

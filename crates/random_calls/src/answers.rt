@@ -1,6 +1,6 @@
 // What the clients' changes answer, by their refusals in order.
 
-use crate::record::{BLOCKS, Entry, Life, Record, Status};
+use crate::record::{Entry, Life, Record, Status};
 use xn_kernel::Refusal;
 
 /// An edit as it is asked for.
@@ -17,7 +17,7 @@ pub struct Asked {
 impl Record {
     /// The life of a file system's own block.
     fn own(&self, fs: u8, block: u32) -> Result<Life, Refusal> {
-        if block >= BLOCKS {
+        if block >= self.blocks {
             return Err(Refusal::NoSuchBlock);
         }
         match self.life(block) {
@@ -93,13 +93,13 @@ impl Record {
     /// there are up to it.
     pub fn chain_end(&self, block: u32) -> (u32, u32) {
         let mut end = block;
-        for owners in 0..BLOCKS {
+        for owners in 0..self.blocks {
             match self.owner(end) {
                 Some(owner) => end = owner,
                 None => return (end, owners),
             }
         }
-        (end, BLOCKS)
+        (end, self.blocks)
     }
 
     /// Why a block may not be added by an edit of another.

@@ -1,6 +1,5 @@
 // Crashes, and the mounts after them.
 
-use crate::record::BLOCKS;
 use crate::run::Run;
 use crate::tally::Met;
 use crash_check::{ImageFault, mount};
@@ -63,7 +62,7 @@ impl Run {
         let keeps = self
             .numbers
             .pick(&[Keeps::Nothing, Keeps::All, Keeps::Some, Keeps::Some]);
-        for block in 0..BLOCKS {
+        for block in 0..self.record.blocks {
             let is_kept = match keeps {
                 Keeps::Nothing => false,
                 Keeps::All => true,
@@ -75,7 +74,7 @@ impl Run {
 
     /// Lets the next sync of a lane fail; whether that lane is there.
     fn fail_lane(&mut self, lanes: &mut Lanes<MemLane>) -> bool {
-        let block = u32::from(self.numbers.below(64));
+        let block = self.record.some_number(&mut self.numbers, 0);
         let Some(mut lane) = take(lanes, block) else {
             return false;
         };
@@ -98,7 +97,7 @@ impl Run {
             match mount(rt, alloc, lanes, id) {
                 Ok(_) => return None,
                 Err((fault, back)) => {
-                    self.tally.check(fault == ImageFault::Device);
+                    self.tally.check_fault(fault);
                     self.tally.add(Met::Unmounted, 1);
                     lanes = back;
                 }
@@ -106,6 +105,10 @@ impl Run {
         }
         match mount(rt, alloc, lanes, id) {
             Ok(kernel) => Some(kernel),
+            Err((ImageFault::NoMemory, back)) if self.tally.may_lack => {
+                self.tally.add(Met::Lacking, 1);
+                mount(rt, alloc, back, id).ok()
+            }
             Err(_) => None,
         }
     }
@@ -157,7 +160,7 @@ impl Run {
             self.tally.check(false);
             return Ok(None);
         };
-        for block in 0..BLOCKS {
+        for block in 0..self.record.blocks {
             self.look_at_mounted(&kernel, block);
         }
         Ok(Some(kernel))

@@ -1,7 +1,7 @@
 // Pseudo-random edits.
 
 use crate::answers::Asked;
-use crate::record::{BLOCKS, Entry, Record, Status};
+use crate::record::{Entry, Record, Status};
 use pseudo_random::Numbers;
 use std::alloc::{AllocError, Global};
 use xn_kernel::{Edit, EditId, Patch};
@@ -86,8 +86,8 @@ fn some_after(numbers: &mut Numbers, record: &Record) -> Option<u64> {
 
 /// A block of a file system, from a place on: any, or a fresh one of a type. Where there is none, the block at that place.
 pub fn search(record: &Record, start: u32, fs: u8, fresh: Option<u32>) -> u32 {
-    for step in 0..BLOCKS {
-        let block = start.wrapping_add(step) % BLOCKS;
+    for step in 0..record.blocks {
+        let block = record.behind(start, step);
         let Some(life) = record.life(block) else {
             continue;
         };
@@ -133,7 +133,7 @@ pub fn some_target(
     if old != 0 && numbers.below(4) > 0 {
         return 0;
     }
-    let start = u32::from(numbers.below(64));
+    let start = record.some_number(numbers, 0);
     let (end, _) = record.chain_end(asked.entry.block);
     let mut found = search(record, start, asked.fs, Some(ty));
     if found == end && numbers.below(4) > 0 {

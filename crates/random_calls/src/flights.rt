@@ -1,7 +1,6 @@
 // The calls that write blocks.
 
 use crate::held::Held;
-use crate::record::BLOCKS;
 use crate::run::Run;
 use crate::tally::{Kind, Met};
 use crate::writes::{Write, drain};
@@ -18,8 +17,8 @@ fn code(is_well: bool) -> u64 {
 impl Run {
     /// A block other than block 0 whose write may begin, from one on; where there is none, that one.
     fn ready_from(&self, start: u32) -> u32 {
-        for step in 0..BLOCKS {
-            let block = start.wrapping_add(step) % BLOCKS;
+        for step in 0..self.record.blocks {
+            let block = self.record.behind(start, step);
             if block != 0 && self.record.next_begin(block).is_ok() {
                 return block;
             }
@@ -183,7 +182,7 @@ impl Run {
 
     /// Begins with what the lanes of a kernel over a fresh disk hold.
     pub fn start(&mut self, alloc: Global, kernel: &Kernel<MemLane>) -> Result<(), AllocError> {
-        for block in 0..BLOCKS {
+        for block in 0..self.record.blocks {
             if let Some(lane) = kernel.lane(block) {
                 self.record.hold(block, Held::rest(*lane.bytes()));
                 self.record.start_with(block, lane.bytes());

@@ -1,8 +1,9 @@
 // Makes pseudo-random calls of a kernel for eight file systems on a disk of 64 blocks, and compares each answer with what scans of a plain
 // record say. Types are installed while it runs. The device holds writes until they are synced, and some writes and syncs fail; it
 // crashes again and again, keeps some of what it held, and is mounted, and each block is then what the record says: a type that block 0
-// doesn't name on the disk is gone. Prints how many calls of each kind were made and accepted, and how many answers were compared. The
-// same calls are made in each run.
+// doesn't name on the disk is gone. Then it makes calls on a disk of five groups of places, which come and go. Prints how many calls of each
+// kind were made and accepted, and how many answers were compared. The same calls are made in each run. With an argument it makes so many
+// calls on the second disk alone, of which some may find no memory, for `tools/outside memory`.
 // May touch: memory, threads, streams.
 #![tactic(auto)]
 
@@ -16,6 +17,7 @@ mod reached;
 mod record;
 mod run;
 mod scans;
+mod seasons;
 mod shapes;
 mod tally;
 mod types;
@@ -25,14 +27,18 @@ use disk::MemLane;
 use disks::fresh_kernel;
 use record::BLOCKS;
 use run::Run;
+use seasons::make_seasons;
 use std::alloc::{AllocError, Global};
-use std::io;
 use std::thread::Threads;
-use tally::{KINDS, Met, REPORT, Tally};
+use std::{env, io};
+use tally::{KINDS, REPORT, SEASONS_REPORT, Tally};
 use xn_kernel::Kernel;
 
 /// How many calls are made, beside the finishes before drains.
 const CALLS: u32 = 500_000;
+
+/// How many calls are made on the disk whose groups come and go.
+const SEASONS_CALLS: u32 = 12_000;
 
 /// How many of the calls are made before the first crash may come.
 const BEFORE_CRASHES: u32 = 100_000;
@@ -103,9 +109,42 @@ fn print_tally(rt: &impl Print, tally: &Tally) -> io::Result<()> {
     println!(rt; " wrong, hash {:#x}", tally.hash)
 }
 
+/// Prints what was met on the disk whose groups come and go.
+fn print_seasons(rt: &impl Print, tally: &Tally) -> io::Result<()> {
+    for &(text, met) in &SEASONS_REPORT {
+        print!(rt; "{text}{}", tally.of(met))?;
+    }
+    println!(rt; " wrong, hash {:#x}", tally.hash)
+}
+
+/// Makes so many calls on that disk.
+fn seasons_met(
+    rt: &(impl Threads + Sync),
+    alloc: Global,
+    calls: u32,
+    may_lack: bool,
+) -> Result<Tally, AllocError> {
+    let mut run = Run::new(alloc, seasons::BLOCKS)?;
+    run.tally.may_lack = may_lack;
+    make_seasons(rt, alloc, &mut run, calls)?;
+    Ok(run.tally)
+}
+
+/// How many calls an argument asks for, which are made on the disk whose groups come and go alone, and may find no memory.
+fn calls_asked(rt: &HostRuntime) -> io::Result<Option<u32>> {
+    match env::args(rt)?.nth(1) {
+        Some(calls) => Ok(Some(calls.parse::<u32>().unwrap_or(0))),
+        None => Ok(None),
+    }
+}
+
 fn main(rt: HostRuntime) -> io::Result<()> {
     let alloc = rt.alloc();
-    let mut run = Run::new(alloc)?;
+    if let Some(calls) = calls_asked(&rt)? {
+        return print_seasons(&rt, &seasons_met(&rt, alloc, calls, true)?);
+    }
+    let mut run = Run::new(alloc, BLOCKS)?;
     make_calls(&rt, alloc, &mut run)?;
-    print_tally(&rt, &run.tally)
+    print_tally(&rt, &run.tally)?;
+    print_seasons(&rt, &seasons_met(&rt, alloc, SEASONS_CALLS, false)?)
 }

@@ -1,7 +1,7 @@
 // What a mount finds on a disk: the blocks that its root block reaches, by the bytes alone.
 
 use crate::held::word_at;
-use crate::record::{BLOCKS, Life, Record};
+use crate::record::{Life, Record};
 use crate::types::{FIRST_NAMED, PAST_NAMED};
 use std::alloc::{AllocError, Global};
 
@@ -23,7 +23,7 @@ struct Walk {
 impl Record {
     /// Takes a block that a pointer names.
     fn reach(&mut self, walk: &mut Walk, block: u32, life: Life) -> Result<(), AllocError> {
-        if block >= BLOCKS || self.life(block).is_some() || !self.is_installed(life.ty) {
+        if block >= self.blocks || self.life(block).is_some() || !self.is_installed(life.ty) {
             walk.is_sound = false;
             return Ok(());
         }
@@ -86,7 +86,7 @@ impl Record {
         };
         self.reach_templates(&mut walk)?;
         self.reach_roots(&mut walk)?;
-        for at in 0..BLOCKS as usize {
+        for at in 0..self.blocks as usize {
             if let Some(block) = walk.found.get(at) {
                 let block = *block;
                 self.reach_named(&mut walk, block)?;

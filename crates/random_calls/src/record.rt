@@ -2,11 +2,15 @@
 // and no index beside them.
 
 use crate::held::{Bytes, Held};
+use pseudo_random::Numbers;
 use std::alloc::{AllocError, Global};
 use store_types::BLOCK_LEN;
 
-/// How many blocks the disk has.
+/// How many blocks the disk of most calls has.
 pub const BLOCKS: u32 = 64;
+
+/// How many places of blocks a kernel keeps together: those of a group are there while one of them is in use.
+const GROUP: usize = 64;
 
 /// Whether an owner names a block.
 #[derive(Clone, Copy, PartialEq, Eq)]
@@ -58,6 +62,8 @@ pub struct Entry {
 /// All lives by block, all pending entries in the order of their numbers, and what the device holds.
 #[derive(Drop)]
 pub struct Record {
+    /// How many blocks the disk has.
+    pub blocks: u32,
     pub lives: Vec<Option<Life>>,
     pub entries: Vec<Entry>,
     /// The next number to be given.
@@ -71,14 +77,15 @@ pub struct Record {
 }
 
 impl Record {
-    /// A disk of zeros, with no template.
-    pub fn new(alloc: Global) -> Result<Record, AllocError> {
+    /// A disk of so many blocks of zeros, with no template.
+    pub fn new(alloc: Global, blocks: u32) -> Result<Record, AllocError> {
         let mut record = Record {
-            lives: vec![in alloc; None; BLOCKS as usize]?,
+            blocks,
+            lives: vec![in alloc; None; blocks as usize]?,
             entries: Vec::new(alloc),
             next: 1,
-            held: vec![in alloc; Held::rest([0; BLOCK_LEN]); BLOCKS as usize]?,
-            starts: vec![in alloc; [0; BLOCK_LEN]; BLOCKS as usize]?,
+            held: vec![in alloc; Held::rest([0; BLOCK_LEN]); blocks as usize]?,
+            starts: vec![in alloc; [0; BLOCK_LEN]; blocks as usize]?,
             shapes: [0; 16],
         };
         record.restart();
@@ -87,7 +94,7 @@ impl Record {
 
     /// Forgets all lives but that of block 0, and all entries.
     pub fn restart(&mut self) {
-        for block in 0..BLOCKS {
+        for block in 0..self.blocks {
             self.set(block, None);
         }
         let root = Life::found(None, 0, 0);
@@ -95,6 +102,31 @@ impl Record {
         self.set(0, Some(Life { status, ..root }));
         self.entries.clear();
         self.next = 1;
+    }
+
+    /// The block so many places behind another one, where block 0 comes behind the last one.
+    pub fn behind(&self, start: u32, step: u32) -> u32 {
+        match start.wrapping_add(step).checked_rem(self.blocks) {
+            Some(block) => block,
+            None => 0,
+        }
+    }
+
+    /// A block of the disk, or one of so many numbers past its end.
+    pub fn some_number(&self, numbers: &mut Numbers, past: u16) -> u32 {
+        let blocks = u16::try_from(self.blocks).unwrap_or(u16::MAX);
+        u32::from(numbers.below(blocks.saturating_add(past).max(1)))
+    }
+
+    /// How many groups of places have a block in use.
+    pub fn groups(&self) -> u32 {
+        let mut count = 0u32;
+        for group in self.lives.chunks(GROUP) {
+            if group.iter().any(|life| life.is_some()) {
+                count = count.saturating_add(1);
+            }
+        }
+        count
     }
 
     /// The life of a block; `None` where it is free, and past the end of the disk.

@@ -3,7 +3,7 @@
 use crate::edits::{claiming, edit_of, plain, search, some_pointer, some_target, words_of};
 use crate::held::{Bytes, put_word, word_at};
 use crate::reached::slot;
-use crate::record::{BLOCKS, Entry, Record};
+use crate::record::{Entry, Record};
 use crate::shapes::{SHAPES, SPOILS, block_of, shape_of_number, spoiled};
 use crate::tally::{Kind, Met, Tally, uninstalled};
 use crate::types::{ADDED, FIRST_ADDED};
@@ -15,7 +15,7 @@ use store_types::BLOCK_LEN;
 use xn_kernel::{EditId, Fs, Kernel, Refusal, Store};
 
 /// How many file systems make calls.
-const SYSTEMS: u16 = 8;
+pub const SYSTEMS: u16 = 8;
 
 /// How many writes are under way at most.
 const WRITES: usize = 6;
@@ -43,29 +43,29 @@ fn code(block: Option<u32>) -> u64 {
 }
 
 impl Run {
-    /// Before the first call.
-    pub fn new(alloc: Global) -> Result<Run, AllocError> {
+    /// Before the first call on a disk of so many blocks.
+    pub fn new(alloc: Global, blocks: u32) -> Result<Run, AllocError> {
         Ok(Run {
             numbers: Numbers { state: 1 },
-            record: Record::new(alloc)?,
+            record: Record::new(alloc, blocks)?,
             writes: Vec::new(alloc),
             tally: Tally::new(),
         })
     }
 
     /// A block, mostly of the file system; some are past the end of the disk.
-    fn some_block(&mut self, fs: u8) -> u32 {
-        let any = u32::from(self.numbers.below(66));
+    pub fn some_block(&mut self, fs: u8) -> u32 {
+        let any = self.record.some_number(&mut self.numbers, 2);
         if self.numbers.below(16) == 0 {
             any
         } else {
-            search(&self.record, any % 64, fs, None)
+            search(&self.record, self.record.behind(any, 0), fs, None)
         }
     }
 
     /// A fresh block of the file system and of a type, if there is one.
-    fn some_fresh(&mut self, fs: u8, ty: u32) -> u32 {
-        let start = u32::from(self.numbers.below(64));
+    pub fn some_fresh(&mut self, fs: u8, ty: u32) -> u32 {
+        let start = self.record.some_number(&mut self.numbers, 0);
         search(&self.record, start, fs, Some(ty))
     }
 
@@ -100,9 +100,9 @@ impl Run {
 
     /// A block of the file system that may point to blocks of a type, if there is one.
     fn some_owner(&mut self, fs: u8, ty: u32) -> u32 {
-        let start = u32::from(self.numbers.below(64));
-        for step in 0..BLOCKS {
-            let block = start.wrapping_add(step) % BLOCKS;
+        let start = self.record.some_number(&mut self.numbers, 0);
+        for step in 0..self.record.blocks {
+            let block = self.record.behind(start, step);
             if let Some(life) = self.record.life(block)
                 && life.fs == Some(fs)
                 && self.record.points_to(life.ty, ty)
@@ -125,7 +125,7 @@ impl Run {
         self.record.accept(entry)
     }
 
-    fn init(&mut self, kernel: &mut Kernel<MemLane>, fs: Fs, ty: u32) -> Result<(), AllocError> {
+    pub fn init(&mut self, kernel: &mut Kernel<MemLane>, fs: Fs, ty: u32) -> Result<(), AllocError> {
         let words = words_of(&self.record, ty, None);
         let answer = match kernel.init(fs, ty, &first_bytes(words)) {
             Ok((block, entry)) => Ok((block, entry.number())),
@@ -205,13 +205,18 @@ impl Run {
     }
 
     /// Forgets this block, or a fresh one.
-    fn forget(&mut self, kernel: &mut Kernel<MemLane>, fs: Fs, block: u32) {
+    fn forget_some(&mut self, kernel: &mut Kernel<MemLane>, fs: Fs, block: u32) {
         let block = if self.numbers.below(6) == 0 {
             block
         } else {
             let ty = self.some_type(&[2, 2, 2, 3, 3, 4, 4, 5, 5, 6, 6, 7, 7, 0, 0, 0]);
             self.some_fresh(fs.number(), ty)
         };
+        self.forget(kernel, fs, block);
+    }
+
+    /// Forgets a block.
+    pub fn forget(&mut self, kernel: &mut Kernel<MemLane>, fs: Fs, block: u32) {
         let answer = match kernel.forget(fs, block) {
             Ok(()) => Ok((block, 0)),
             Err(refusal) => Err(refusal),
@@ -278,7 +283,7 @@ impl Run {
     }
 
     /// Asks what changes nothing.
-    fn ask(&mut self, kernel: &Kernel<MemLane>, fs: Fs, block: u32) {
+    pub fn ask(&mut self, kernel: &Kernel<MemLane>, fs: Fs, block: u32) {
         let system = fs.number();
         let (record, tally) = (&self.record, &mut self.tally);
         tally.ask(code(kernel.state().pick()), code(record.pick()));
@@ -328,7 +333,7 @@ impl Run {
             44..=51 => self.drop_root(kernel, fs)?,
             52..=299 => self.propose(alloc, kernel, fs, block)?,
             300..=307 => self.install(alloc, kernel, fs)?,
-            308..=359 => self.forget(kernel, fs, block),
+            308..=359 => self.forget_some(kernel, fs, block),
             360..=439 if self.writes.len() < WRITES => self.begin(kernel, block)?,
             360..=510 if self.writes.len() > 0 => self.go_on(kernel)?,
             360..=510 => self.begin(kernel, block)?,

@@ -1,7 +1,7 @@
 // What a kernel is asked, answered by scans of all lives and all entries.
 
 use crate::held::Held;
-use crate::record::{BLOCKS, Entry, Record, Status};
+use crate::record::{Entry, Record, Status};
 use xn_kernel::Refusal;
 
 impl Record {
@@ -99,7 +99,7 @@ impl Record {
 
     /// The least block that may be written.
     pub fn pick(&self) -> Option<u32> {
-        for block in 0..BLOCKS {
+        for block in 0..self.blocks {
             if let Some(life) = self.life(block)
                 && life.begun.is_none()
                 && self.prefix(block) > 0
@@ -156,7 +156,7 @@ impl Record {
 
     /// The block that block 0 owns for a file system.
     pub fn root(&self, fs: u8) -> Option<u32> {
-        for block in 0..BLOCKS {
+        for block in 0..self.blocks {
             if let Some(life) = self.life(block)
                 && life.fs == Some(fs)
                 && life.status == Status::Owned(0)
@@ -169,7 +169,7 @@ impl Record {
 
     /// How many entries a write of a block carries.
     pub fn next_begin(&self, block: u32) -> Result<u32, Refusal> {
-        if block >= BLOCKS {
+        if block >= self.blocks {
             return Err(Refusal::NoSuchBlock);
         }
         let Some(life) = self.life(block) else {

@@ -1,5 +1,6 @@
 // How the calls were answered, and what was met.
 
+use crash_check::ImageFault;
 use xn_kernel::Refusal;
 
 /// What is called.
@@ -14,6 +15,16 @@ pub enum Kind {
     Finish,
     Drain,
     Install,
+}
+
+impl Kind {
+    /// Whether a call of this kind may ask for memory.
+    fn takes_memory(self) -> bool {
+        match self {
+            Kind::Init | Kind::MakeRoot | Kind::DropRoot | Kind::Propose | Kind::Install => true,
+            Kind::Forget | Kind::Begin | Kind::Finish | Kind::Drain => false,
+        }
+    }
 }
 
 /// The names of the kinds, in their order.
@@ -79,6 +90,11 @@ pub enum Met {
     /// Answers that were compared with a scan's, and those that were others.
     Compared,
     Wrong,
+    /// Groups of places that came to have a block in use, and those that came to have none.
+    Made,
+    Ended,
+    /// Calls and mounts that found no memory.
+    Lacking,
 }
 
 /// What was met as it is printed: each count with the text before it.
@@ -123,13 +139,26 @@ pub static REPORT: [(&str, Met); 29] = [
     (" answers, ", Met::Wrong),
 ];
 
+/// The same of the calls on the disk whose groups come and go.
+pub static SEASONS_REPORT: [(&str, Met); 7] = [
+    ("on 320 blocks ", Met::Made),
+    (" groups came to be in use, and ", Met::Ended),
+    (" to be in use no more; ", Met::Crashes),
+    (" crashes, the mounts reached ", Met::Reached),
+    (" blocks; ", Met::Lacking),
+    (" calls found no memory\ncompared ", Met::Compared),
+    (" answers, ", Met::Wrong),
+];
+
 /// Of each kind how many calls were made, and how many of them were accepted; what was met; a hash of all answers.
 #[derive(Drop)]
 pub struct Tally {
     pub made: [u32; 9],
     pub accepted: [u32; 9],
-    pub met: [u32; 29],
+    pub met: [u32; 32],
     pub hash: u64,
+    /// Whether a call that takes memory may find none.
+    pub may_lack: bool,
 }
 
 /// Why an installation was refused.
@@ -155,8 +184,9 @@ impl Tally {
         Tally {
             made: [0; 9],
             accepted: [0; 9],
-            met: [0; 29],
+            met: [0; 32],
             hash: 0xcbf29ce484222325,
+            may_lack: false,
         }
     }
 
@@ -193,6 +223,9 @@ impl Tally {
         answer: Result<(u32, u64), Refusal>,
         wanted: Result<(u32, u64), Refusal>,
     ) {
+        if self.may_lack && kind.takes_memory() && answer == Err(Refusal::NoMemory) {
+            return self.add(Met::Lacking, 1);
+        }
         self.check(answer == wanted);
         add_one(&mut self.made, kind as usize);
         let (first, second) = match answer {
@@ -220,6 +253,14 @@ impl Tally {
         if !is_same {
             self.add(Met::Wrong, 1);
         }
+    }
+
+    /// Takes why a mount failed of which a lane could not be synced.
+    pub fn check_fault(&mut self, fault: ImageFault) {
+        if self.may_lack && fault == ImageFault::NoMemory {
+            return self.add(Met::Lacking, 1);
+        }
+        self.check(fault == ImageFault::Device);
     }
 
     /// Takes the answer to a question, and what a scan says.

@@ -2,7 +2,7 @@
 
 use crate::edits::Pointer;
 use crate::held::{Bytes, word_at};
-use crate::record::{BLOCKS, Entry, Life, Record, Status};
+use crate::record::{Entry, Life, Record, Status};
 use crate::shapes::{Shape, shape_of_number};
 use std::alloc::AllocError;
 use xn_kernel::Refusal;
@@ -149,7 +149,7 @@ impl Record {
 
     /// The lowest free block.
     pub fn lowest_free(&self) -> Option<u32> {
-        for block in 0..BLOCKS {
+        for block in 0..self.blocks {
             if self.life(block).is_none() {
                 return Some(block);
             }

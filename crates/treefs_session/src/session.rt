@@ -1,7 +1,8 @@
 // A store with the open volume of a file system.
 
-ghost use Rattle.std.specs.Prelude.{◌≡◌, IfErr, IfOk, Ok};
+ghost use Rattle.std.specs.Prelude.{◌≡◌, Err, IfErr, IfOk, Ok};
 ghost use Rattle.treefs.specs.Making.{MkfsDoes};
+ghost use Rattle.treefs.specs.Opening.{opened};
 ghost use Rattle.treefs_session.specs.Opening.{Closes, IsNotClosed, IsNotOpened, IsOpened, with_clock};
 
 use crate::calls::lives::Close;
@@ -67,6 +68,25 @@ impl<S: FlushStore + Drop> Session<S> {
             return Err(Fault::Kernel(refusal));
         }
         match treefs_mounts::open(alloc, &mut store, fs, types, time) {
+            Ok(volume) => Ok(Session { store, volume }),
+            Err(fault) => Err(fault),
+        }
+    }
+
+    /// Opens the volume of a file system of a store to look at it: nothing is written, mended or edited, and what a crash left shows. The fault is `NoEntry` where
+    /// the file system has no root of the type of inodes with the mark of a volume and an inode 1.
+    pub fn open_to_look(
+        alloc: Global,
+        store: S,
+        fs: Fs,
+        types: BlockTypes,
+        time: i64,
+    ) -> Result<Session<S>, Fault>
+        ensures store { IfOk result (λ session. session.store ≡ store) }
+        ensures ok { IfOk result (λ session. opened (S.state_of store) fs types time ≡ Ok session.volume) }
+        ensures err { IfErr result (λ fault. opened (S.state_of store) fs types time ≡ Err fault) }
+    {
+        match Volume::open_to_look(alloc, &store, fs, types, time) {
             Ok(volume) => Ok(Session { store, volume }),
             Err(fault) => Err(fault),
         }

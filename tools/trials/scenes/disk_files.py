@@ -54,6 +54,11 @@ def a_file_has_what_is_written_to_its_lanes():
 
 
 @scene
+def a_long_file_is_read_to_its_end():
+    passes("many_blocks_are_read_in_their_places")
+
+
+@scene
 def what_others_write_into_a_disk_is_a_fault():
     passes("what_others_write_is_a_fault")
 

@@ -1,0 +1,105 @@
+// Words that look at any volume.
+
+use host_trees::Host;
+use std::alloc::Global;
+use std::io::Write;
+use tree_lines::{Fault, Told, View};
+use tree_looks::{Listing, Sought, cat, list, measure, read_link, search, stat, tree, usage};
+use tree_transfers::{Getting, get};
+use treefs_format::Kind;
+use xnfs_requests::{FoundKind, ListForm, Word};
+
+/// Whether a word changes no disk, so that one is opened for it without rights to write.
+pub fn is_looking(word: &Word) -> bool {
+    matches!(
+        word,
+        Word::List { .. }
+            | Word::Tree { .. }
+            | Word::Cat { .. }
+            | Word::Stat { .. }
+            | Word::ReadLink { .. }
+            | Word::Find { .. }
+            | Word::DiskUsage { .. }
+            | Word::FreeSpace { .. }
+            | Word::Get { .. }
+            | Word::Check {
+                is_repairing: false,
+                ..
+            }
+    )
+}
+
+/// How names are listed.
+fn listing_of(form: &ListForm) -> Listing {
+    Listing {
+        is_long: form.is_long,
+        has_hidden: form.has_hidden,
+        is_recursive: form.is_recursive,
+        is_json: form.is_json,
+    }
+}
+
+/// The kind of what is looked for.
+fn kind_of(kind: FoundKind) -> Kind {
+    match kind {
+        FoundKind::File => Kind::File,
+        FoundKind::Folder => Kind::Directory,
+        FoundKind::SymbolicLink => Kind::SymbolicLink,
+    }
+}
+
+/// Prints where symbolic links lead.
+fn read_links<V: View>(
+    view: &V,
+    alloc: Global,
+    told: &mut Told,
+    (folder, paths): (u32, &[&str]),
+    out: &mut impl Write,
+) -> Result<(), Fault> {
+    for path in paths {
+        let done = read_link(view, alloc, (folder, path), out);
+        told.go_on(done)?;
+    }
+    Ok(())
+}
+
+/// Does what a word that looks asks for, but for `check`. Relative paths begin at a folder.
+pub fn look<V: View, H: Host>(
+    (view, host): (&V, &H),
+    alloc: Global,
+    told: &mut Told,
+    folder: u32,
+    (word, keeps_attributes): (&Word, bool),
+    out: &mut impl Write,
+) -> Result<(), Fault> {
+    match word {
+        Word::List { paths, form } => {
+            list(view, alloc, told, (folder, paths), listing_of(form), out)
+        }
+        Word::Tree { path } => tree(view, alloc, told, (folder, path), out),
+        Word::Cat { paths } => cat(view, alloc, told, (folder, paths), out),
+        Word::Stat { paths, is_json } => stat(view, alloc, told, (folder, paths), *is_json, out),
+        Word::ReadLink { paths } => read_links(view, alloc, told, (folder, paths), out),
+        Word::Find { paths, name, kind } => {
+            let sought = Sought {
+                name: *name,
+                kind: kind.map(kind_of),
+            };
+            search(view, alloc, told, (folder, paths), sought, out)
+        }
+        Word::DiskUsage { paths, is_summary } => {
+            measure(view, alloc, told, (folder, paths), *is_summary, out)
+        }
+        Word::FreeSpace { is_json } => usage(view, alloc, *is_json, out),
+        Word::Get { paths, target } => {
+            let getting = Getting {
+                folder,
+                paths,
+                target,
+                keeps_attributes,
+            };
+            get(view, alloc, told, host, getting, out)
+        }
+        _ => Ok(()),
+    }
+}
