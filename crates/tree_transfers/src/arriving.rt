@@ -161,7 +161,7 @@ impl<'a, H: Host, S: FlushStore + Drop> Arriving<'a, H, S> {
     }
 
     /// Writes pieces behind the end of an inode that was begun, the first of them given, up to the last.
-    fn append_all<I: Incoming>(
+    fn append_all<I: Incoming<H>>(
         &mut self,
         goods: Goods,
         block: u32,
@@ -181,7 +181,7 @@ impl<'a, H: Host, S: FlushStore + Drop> Arriving<'a, H, S> {
                 break;
             }
             from = 0;
-            to = match read_piece(incoming, piece) {
+            to = match read_piece(self.host, incoming, piece) {
                 Ok(count) => count,
                 Err(error) => return Err(system(alloc, goods.source.as_bytes(), error)),
             };
@@ -190,7 +190,7 @@ impl<'a, H: Host, S: FlushStore + Drop> Arriving<'a, H, S> {
     }
 
     /// Puts a file of which the first piece was read, and that may have more. Its name comes behind all its bytes.
-    fn put_long<I: Incoming>(
+    fn put_long<I: Incoming<H>>(
         &mut self,
         goods: Goods,
         incoming: &mut I,
@@ -225,14 +225,14 @@ impl<'a, H: Host, S: FlushStore + Drop> Arriving<'a, H, S> {
     }
 
     /// Puts a file in the place of what has the name, and answers its number.
-    pub fn put_file<I: Incoming>(
+    pub fn put_file<I: Incoming<H>>(
         &mut self,
         goods: Goods,
         incoming: &mut I,
         piece: &mut [u8],
     ) -> Result<u32, Fault> {
         self.want_space(goods)?;
-        let count = match read_piece(incoming, piece) {
+        let count = match read_piece(self.host, incoming, piece) {
             Ok(count) => count,
             Err(error) => return Err(system(self.alloc, goods.source.as_bytes(), error)),
         };

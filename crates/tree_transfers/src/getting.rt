@@ -2,7 +2,7 @@
 
 use crate::leaving::Leaving;
 use crate::naming::joined;
-use crate::tree_out::{fill_folder, make_below, make_target, told_name};
+use crate::tree_out::{fill_folder, make_folder, make_target, told_name};
 use host_trees::{Filler, Host, Kind, PlainSink};
 use std::alloc::Global;
 use std::io::Write;
@@ -62,8 +62,8 @@ fn bring_into<V: View, H: Host>(
     let target = joined(leaving.alloc, target, name.as_str())?;
     match node.kind {
         NodeKind::Directory => {
-            let is_made = make_below(leaving, target.as_str())?;
-            fill_folder(leaving, path.as_bytes(), node, target.as_str(), is_made)
+            make_folder(leaving, target.as_str())?;
+            fill_folder(leaving, path.as_bytes(), node, target.as_str(), true)
         }
         _ => leaving.bring_file_below(node, path.as_bytes(), target.as_str()),
     }

@@ -10,9 +10,9 @@ use std::io::{ErrorKind, Read};
 pub const PIECE: usize = 1_048_576;
 
 /// What bytes are read from, one behind the other.
-pub trait Incoming {
+pub trait Incoming<H: Host> {
     /// Reads the next bytes, and answers how many they are: none at the end.
-    fn read_some(&mut self, bytes: &mut [u8]) -> io::Result<usize>
+    fn read_some(&mut self, host: &H, bytes: &mut [u8]) -> io::Result<usize>
         ensures { IfOk result (λ count. count ≤ length bytes.new) };
 }
 
@@ -27,32 +27,35 @@ impl<'i, I: Read> Drop for Stream<'i, I> {
     }
 }
 
-impl<I: Read> Incoming for Stream<'_, I> {
-    fn read_some(&mut self, bytes: &mut [u8]) -> io::Result<usize> {
+impl<H: Host, I: Read> Incoming<H> for Stream<'_, I> {
+    fn read_some(&mut self, _host: &H, bytes: &mut [u8]) -> io::Result<usize> {
         self.input.read(bytes)
     }
 }
 
 /// An open file of the system.
-pub struct OpenFile<'h, H: Host> {
-    pub host: &'h H,
+pub struct OpenFile<H: Host> {
     pub file: H::File,
 }
 
-impl<'h, H: Host> Drop for OpenFile<'h, H> {
+impl<H: Host> Drop for OpenFile<H> {
     fn drop(self) {
-        let OpenFile { host: _, file: _ } = self;
+        let OpenFile { file: _ } = self;
     }
 }
 
-impl<H: Host> Incoming for OpenFile<'_, H> {
-    fn read_some(&mut self, bytes: &mut [u8]) -> io::Result<usize> {
-        self.host.read(&mut self.file, bytes)
+impl<H: Host> Incoming<H> for OpenFile<H> {
+    fn read_some(&mut self, host: &H, bytes: &mut [u8]) -> io::Result<usize> {
+        host.read(&mut self.file, bytes)
     }
 }
 
 /// Reads the next bytes, as many as there is room for, or up to the end. Answers how many they are.
-pub fn read_piece<I: Incoming>(incoming: &mut I, piece: &mut [u8]) -> io::Result<usize> {
+pub fn read_piece<H: Host, I: Incoming<H>>(
+    host: &H,
+    incoming: &mut I,
+    piece: &mut [u8],
+) -> io::Result<usize> {
     let mut filled = 0usize;
     for _ in 0..u64::MAX {
         let Some(room) = piece.get_mut(filled..) else {
@@ -61,7 +64,7 @@ pub fn read_piece<I: Incoming>(incoming: &mut I, piece: &mut [u8]) -> io::Result
         if room.is_empty() {
             break;
         }
-        match incoming.read_some(room) {
+        match incoming.read_some(host, room) {
             Ok(0) => break,
             Ok(count) => filled = filled.saturating_add(count),
             Err(error) if error.kind() == ErrorKind::Interrupted => {}

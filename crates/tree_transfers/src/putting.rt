@@ -108,10 +108,7 @@ fn put_one_file<H: Host, S: FlushStore + Drop>(
     if attributes.kind == Kind::File {
         return put_regular(arriving, goods, file, piece);
     }
-    let mut incoming = OpenFile {
-        host: arriving.host,
-        file,
-    };
+    let mut incoming: OpenFile<H> = OpenFile { file };
     let _number = arriving.put_file(goods, &mut incoming, piece)?;
     Ok(())
 }

@@ -66,7 +66,7 @@ fn put_parts<H: Host, S: FlushStore + Drop>(
 }
 
 /// Writes all bytes, and sets the size.
-fn fill<H: Host, S: FlushStore + Drop, I: Incoming>(
+fn fill<H: Host, S: FlushStore + Drop, I: Incoming<H>>(
     arriving: &mut Arriving<H, S>,
     copied: Copied,
     incoming: &mut I,
@@ -75,7 +75,7 @@ fn fill<H: Host, S: FlushStore + Drop, I: Incoming>(
     let alloc = arriving.alloc;
     let mut at = 0u64;
     for _ in 0..u64::MAX {
-        let count = match read_piece(incoming, piece) {
+        let count = match read_piece(arriving.host, incoming, piece) {
             Ok(count) => count,
             Err(error) => return Err(system(alloc, copied.goods.source.as_bytes(), error)),
         };
@@ -94,7 +94,7 @@ fn fill<H: Host, S: FlushStore + Drop, I: Incoming>(
 }
 
 /// Puts a file with holes, which stay holes, in the place of what has the name, and answers its number.
-pub fn put_sparse<H: Host, S: FlushStore + Drop, I: Incoming>(
+pub fn put_sparse<H: Host, S: FlushStore + Drop, I: Incoming<H>>(
     arriving: &mut Arriving<H, S>,
     goods: Goods,
     incoming: &mut I,

@@ -161,10 +161,7 @@ pub fn put_regular<H: Host, S: FlushStore + Drop>(
     file: H::File,
     piece: &mut [u8],
 ) -> Result<(), Fault> {
-    let mut incoming = OpenFile {
-        host: arriving.host,
-        file,
-    };
+    let mut incoming: OpenFile<H> = OpenFile { file };
     let number = if is_sparse(goods.attributes) {
         put_sparse(arriving, goods, &mut incoming, piece)?
     } else {

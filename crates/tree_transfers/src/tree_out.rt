@@ -38,7 +38,7 @@ pub fn told_name<V: View, H: Host>(
 }
 
 /// Makes a folder of the system, which may be there, but not as a link to one.
-fn make_folder<V: View, H: Host>(leaving: &Leaving<V, H>, target: &str) -> Result<(), Fault> {
+pub fn make_folder<V: View, H: Host>(leaving: &Leaving<V, H>, target: &str) -> Result<(), Fault> {
     let alloc = leaving.alloc;
     match leaving.attributes_at(target)? {
         None => match leaving.host.make_folder(target) {
@@ -145,7 +145,7 @@ fn bring_all<V: View, H: Host>(
         let visit = walk.next(leaving.view, leaving.alloc, leaving.told)?;
         match visit {
             Some(Visit::Met(step)) => meet(leaving, folders, walk, &step)?,
-            Some(Visit::Left(_)) => {
+            Some(Visit::Left(_step)) => {
                 if let Some(Some(folder)) = folders.folders.pop() {
                     settle(leaving, folder)?;
                 }
@@ -156,16 +156,16 @@ fn bring_all<V: View, H: Host>(
     Ok(())
 }
 
-/// Fills a folder of the system with all below one of a volume. It gets the attributes of that one where it was made for it.
+/// Fills a folder of the system with all below one of a volume. It gets the attributes of that one where this is told.
 pub fn fill_folder<V: View, H: Host>(
     leaving: &mut Leaving<V, H>,
     path: &[u8],
     node: &Node,
     target: &str,
-    is_made: bool,
+    is_set: bool,
 ) -> Result<(), Fault> {
     let alloc = leaving.alloc;
-    let settings = if is_made {
+    let settings = if is_set {
         leaving.settings_of(node)
     } else {
         None
@@ -195,11 +195,4 @@ pub fn make_target<H: Host>(host: &H, alloc: Global, target: &str) -> Result<boo
             Err(error) => Err(system(alloc, target.as_bytes(), error)),
         },
     }
-}
-
-/// Makes a folder of the system below one that is there, and answers whether it was made.
-pub fn make_below<V: View, H: Host>(leaving: &Leaving<V, H>, target: &str) -> Result<bool, Fault> {
-    let is_there = leaving.attributes_at(target)?.is_some();
-    make_folder(leaving, target)?;
-    Ok(!is_there)
 }
