@@ -1,7 +1,7 @@
 //! What the words of `xnfs` on volumes of trees have in common: faults, how names are shown, what is asked of any volume, where paths lead, an open volume,
 //! and walks below a folder.
 //!
-//! Of these functions it is proved that they are safe and end. The rest is tested.
+//! Of these functions it is proved that they are safe and end. No program stands on them yet.
 //! May touch: memory.
 #![tactic(auto)]
 

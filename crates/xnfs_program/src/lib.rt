@@ -1,6 +1,6 @@
 //! The program `xnfs` on volumes of trees: its lines and its shell.
 //!
-//! Of these functions it is proved that they are safe and end. The rest is tested.
+//! Of these functions it is proved that they are safe and end. No program stands on them yet.
 //! May touch: memory, threads, files, streams, clock.
 #![tactic(auto)]
 
