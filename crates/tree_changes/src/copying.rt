@@ -79,8 +79,11 @@ fn copy_other<S: FlushStore + Drop>(
 /// The path of a copy below a folder: that of its folder, and what the path of its node has behind that of the first one.
 fn path_below(alloc: Global, to: &[u8], path: &[u8], length: usize) -> Result<Vec<u8>, AllocError> {
     let mut below = Vec::from_slice(alloc, to)?;
-    let rest = path.get(length..).unwrap_or(&[]);
-    if rest.first() != Some(&b'/') && below.last() != Some(&b'/') {
+    let rest = match path.get(length..) {
+        Some(rest) => rest,
+        None => &[],
+    };
+    if rest.first().copied() != Some(b'/') && below.last().copied() != Some(b'/') {
         below.push(b'/')?;
     }
     below.extend_from_slice(rest)?;
