@@ -125,7 +125,12 @@ impl Run {
         self.record.accept(entry)
     }
 
-    pub fn init(&mut self, kernel: &mut Kernel<MemLane>, fs: Fs, ty: u32) -> Result<(), AllocError> {
+    pub fn init(
+        &mut self,
+        kernel: &mut Kernel<MemLane>,
+        fs: Fs,
+        ty: u32,
+    ) -> Result<(), AllocError> {
         let words = words_of(&self.record, ty, None);
         let answer = match kernel.init(fs, ty, &first_bytes(words)) {
             Ok((block, entry)) => Ok((block, entry.number())),

@@ -14,6 +14,7 @@ pub const BLOCKS: u32 = 320;
 
 /// How many calls begin blocks, and with how many the next ones begin.
 const BEGINNING: u32 = 400;
+
 const ROUND: u32 = 1_200;
 
 /// Of how many calls one is any call.

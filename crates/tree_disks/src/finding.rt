@@ -11,6 +11,7 @@ use xnfs_session::has_volume;
 
 /// The bytes of inode 0 that say the types of inodes and of nodes.
 const INODE_TYPE: usize = 0;
+
 const NODE_TYPE: usize = 1;
 
 /// Which library file system's a volume is.

@@ -24,7 +24,11 @@ fn modes_of(alloc: Global, text: &str) -> Result<Setting, Fault> {
 fn owners_of(alloc: Global, text: &str) -> Result<Setting, Fault> {
     match Owners::read(text) {
         Some(owners) => Ok(Setting::Owners(owners)),
-        None => Err(at_word(alloc, text, "wanted are numbers, as 1000 or 1000:100 or :100")),
+        None => Err(at_word(
+            alloc,
+            text,
+            "wanted are numbers, as 1000 or 1000:100 or :100",
+        )),
     }
 }
 

@@ -1,7 +1,6 @@
 // The time of a line, and the key of a new volume.
 
-use std::fs::File;
-use std::fs::Files;
+use std::fs::{File, Files};
 use std::io;
 use std::io::Read;
 use std::rt::Clock;
