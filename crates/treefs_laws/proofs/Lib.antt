@@ -24,3 +24,4 @@ mod Beginning
 mod Listing
 mod Committed
 mod Replaced
+mod TimesWritten

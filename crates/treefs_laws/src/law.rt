@@ -20,6 +20,7 @@ ghost use Rattle.treefs.specs.Linking.{LinkDoes};
 ghost use Rattle.treefs.specs.Reads.{lookup_of, stat_of};
 ghost use Rattle.treefs.specs.Setting.{AttributesDoes, MtimeDoes};
 ghost use Rattle.treefs.specs.Unlinking.{RmdirDoes, UnlinkDoes};
+ghost use Rattle.treefs.specs.WritingTimes.{WriteTimesDoes};
 ghost use Rattle.treefs.specs.declared.attributes.Attributes.{Attributes as NewAttributes};
 ghost use Rattle.treefs.specs.declared.volume.Volume.{Volume};
 ghost use Rattle.treefs_values.specs.Attached.{new_content};
@@ -175,6 +176,14 @@ pub fn commit_replaces_a_name()
         CommitDoes T state state' volume volume' block d name true (Ok n) →
         IsOpen T state' volume' × (files_in state volume n ≡ None)
         × (replaced (files_in state volume) volume.memory.clock d name n inode ≡ Ok (files_in state' volume')) }
+{
+    layout_is_known();
+}
+
+/// `write_times` changes no file, whatever it answers: the times that were only touched are those of the files already.
+pub fn write_times_changes_no_file()
+    ensures { (T : Types) (state state' : StoreState) (volume volume' : Volume) (result : Result (Unit {0}) Fault) → IsOpen T state volume →
+        WriteTimesDoes T state state' volume volume' result → IsOpen T state' volume' × (files_in state' volume' ≡ files_in state volume) }
 {
     layout_is_known();
 }
