@@ -25,3 +25,4 @@ mod Listing
 mod Committed
 mod Replaced
 mod TimesWritten
+mod Refused
