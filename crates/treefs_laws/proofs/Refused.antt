@@ -25,7 +25,7 @@ use Rattle.treefs_edits.specs.declared.memory.Touched.{Touched}
 use Rattle.treefs_byte_plans.specs.Attributes.{attributes_act, attributes_in_room, attributes_plan, attributes_planned}
 use Rattle.treefs_byte_plans.specs.declared.attributes.Attributes.{Attributes}
 use Rattle.treefs_byte_plans.specs.declared.attributes.AttributesPlan.{AttributesPlan}
-use Rattle.treefs_name_plans.specs.Ends.{IsOther, IsOtherBucket, IsUnlinkPlanned, end_in_room, end_plan, ended_in, ends_alone, file_ended, if_no_directory}
+use Rattle.treefs_name_plans.specs.Ends.{IsOther, IsOtherBucket, IsUnlinkPlanned, end_in_room, end_plan, ends_alone, file_ended, if_no_directory}
 use Rattle.treefs_name_plans.specs.declared.end.EndPlan.{EndPlan}
 use Rattle.treefs_name_plans.specs.declared.ended.Ended.{Ended}
 use Rattle.treefs.specs.Setting.{AttributesDoes, MtimeDoes}

@@ -11,29 +11,27 @@ use Rattle.xn_model.specs.Calls.{propose_of}
 use Rattle.xn_model.specs.Results.{Gives}
 use Rattle.store_types.specs.declared.refusal.Refusal.{Refusal}
 use Rattle.treefs_format.specs.Fields.{IsInRange, changed, fields_of}
-use Rattle.treefs_format.specs.declared.fields.Change.{Change}
 use Rattle.treefs_format.specs.declared.fields.Change.TheVariants.{Ctime, Mtime}
 use Rattle.treefs_format.specs.declared.fields.Fields.{Fields}
-use Rattle.treefs_model.specs.Acts.{Act, Made, Ran, changes_act, edit_in}
+use Rattle.treefs_model.specs.Acts.{Act, Ran, changes_act, edit_in}
 use Rattle.treefs_model.specs.Changes.{moved_to}
-use Rattle.treefs_model.specs.Files.{Content, Files, Inode, and_then, changed_at, found}
+use Rattle.treefs_model.specs.Files.{Content, Files, Inode, and_then, changed_at}
 use Rattle.treefs_model.specs.Reading.{files_of, inode_with}
 use Rattle.treefs_model.specs.declared.fault.Fault.{Fault}
-use Rattle.treefs_model.specs.declared.fault.Fault.TheVariants.{Full, Kernel, NoEntry}
+use Rattle.treefs_model.specs.declared.fault.Fault.TheVariants.{Full, NoEntry}
 use Rattle.treefs_lookup.specs.Inodes.{inode_found}
 use Rattle.treefs_lookup.specs.Readable.{readable}
 use Rattle.treefs_lookup.specs.declared.inodes.Found.{Found}
 use Rattle.treefs_edits.specs.Kinds.{time_parts}
-use Rattle.treefs_edits.specs.Memories.{touched_times}
-use Rattle.treefs_edits.specs.Plans.{Begins, Does, Keeps, LacksMemory, forgotten}
+use Rattle.treefs_edits.specs.Plans.{Does, forgotten}
 use Rattle.treefs_edits.specs.Written.{written}
 use Rattle.treefs_edits.specs.declared.memory.Touched.{Touched}
 use Rattle.treefs_edits.specs.declared.times.Times.{Times}
 use Rattle.treefs_edits.specs.declared.tree.Tree.{Tree}
-use Rattle.treefs_byte_plans.specs.Attributes.{attributes_act, attributes_plan}
+use Rattle.treefs_byte_plans.specs.Attributes.{attributes_act}
 use Rattle.treefs_byte_plans.specs.declared.attributes.AttributesPlan.{AttributesPlan}
 use Rattle.treefs.specs.Trimming.{DoesIfAny}
-use Rattle.treefs.specs.WritingTimes.{WriteTimesDoes, WritesOne, WritesTimes, plan_of_times, times_found, times_in_room, times_planned}
+use Rattle.treefs.specs.WritingTimes.{WriteTimesDoes, WritesOne, WritesTimes, plan_of_times, times_found, times_planned}
 use Rattle.treefs.specs.declared.volume.Volume.{Volume}
 use Rattle.treefs_values.specs.KnownLayout.{IsLayout}
 use Rattle.treefs_values.specs.Kinds.{kinds}

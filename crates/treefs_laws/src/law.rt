@@ -191,7 +191,7 @@ pub fn write_times_changes_no_file()
     layout_is_known();
 }
 
-/// `set_attributes` and `set_mtime` that are refused leave all as it was. They answer that no such inode is there, that there is no room, or the store's refusal.
+/// `set_attributes` and `set_mtime` that are refused leave all as it was. They answer that no such inode is there, want of room, or the store's refusal.
 pub fn refused_attributes_change_nothing()
     ensures attributes { (T : Types) (state state' : StoreState) (volume volume' : Volume) (n : ℕ) (attributes : Attributes) (fault : Fault) →
         AttributesDoes T state state' volume volume' n attributes (Err fault) →
