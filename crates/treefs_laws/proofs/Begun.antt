@@ -1,15 +1,13 @@
 -- The blocks that a call begins which makes an inode: each has the bytes of its type.
-use Rattle.std.proofs.Common.{◌≡◌, ◌≢◌, ℕ, ◌+◌, ◌<◌, ◌≤◌, ◌%◌, ◌^◌, List, [], ◌∷◌, ◌++◌, length, refl, sym, ◌∙◌, ap, arith, subst}
-use Rattle.std.specs.Prelude.{All, IsTrue}
-use Rattle.std.proofs.lemmas.List.Elements.{All-append, All-cons, All-nil}
+use Rattle.std.proofs.Common.{◌≢◌, ℕ, ◌<◌, ◌≤◌, ◌^◌, List, [], ◌∷◌, length, refl, sym, arith, subst}
+use Rattle.std.specs.Prelude.{All}
+use Rattle.std.proofs.lemmas.List.Elements.{All-cons, All-nil}
 use Rattle.xn_model.specs.Types.{Types}
-use Rattle.xn_model.specs.Root.{word_at}
 use Rattle.treefs_format.specs.Fields.{AreInRange}
 use Rattle.treefs_format.specs.Inodes.{inode_bytes}
 use Rattle.treefs_format.specs.Nodes.{node_bytes}
 use Rattle.treefs_format.specs.Templates.{IsTree}
 use Rattle.treefs_format.specs.declared.fields.Fields.{Fields}
-use Rattle.treefs_model.specs.Trees.{has_pointer}
 use Rattle.treefs_edits.specs.Missing.{child_before, first_byte, node_starts, path_starts, type_before}
 use Rattle.treefs_edits.specs.declared.start.Start.{Start}
 use Rattle.treefs_name_plans.specs.Additions.{addition_starts, bucket_path}

@@ -1,75 +1,53 @@
 -- An inode that was begun gets its first name.
-use Rattle.std.proofs.Common.{◌≡◌, ◌≢◌, ℕ, ℤ, zero, suc, ◌+◌, ◌-◌, ◌<◌, ◌≤◌, ◌%◌, ◌^◌, Bool, true, false, not, List, [], ◌∷◌, ◌++◌, length, take, drop, Option, None, Some, Result, Ok, Err, refl, sym, ◌∙◌, ap, inl, inr, arith, subst, if◌then◌else◌}
-use Rattle.std.specs.Prelude.{All, Contains, IsTrue, is_some, nat_le, nat_lt, option_map, slice_index, ◌==◌, ◌&&◌, ◌||◌}
-use Rattle.std.specs.Option.{ok_or}
-use Rattle.std.proofs.lemmas.Bool.{and_parts, cases_eq, eq-eqb, leb-true, ne_eqb}
-use Rattle.std.proofs.lemmas.List.{append-nil, drop_at, length-map, map-append, take_at}
-use Rattle.std.proofs.lemmas.List.Elements.{All-append, All-cons, All-head, All-nil, All-tail, All-weaker}
-use Rattle.std.proofs.lemmas.Option.{same_Some}
+use Rattle.std.proofs.Common.{◌≡◌, ◌≢◌, ℕ, ◌-◌, ◌<◌, ◌≤◌, ◌^◌, Bool, false, List, [], ◌∷◌, ◌++◌, length, take, drop, None, Some, Result, Ok, Err, refl, sym, ◌∙◌, ap, inl, inr, arith, subst, if◌then◌else◌}
+use Rattle.std.specs.Prelude.{All, Contains, option_map}
+use Rattle.std.proofs.lemmas.Bool.{ne_eqb}
+use Rattle.std.proofs.lemmas.List.{drop_at, length-map, map-append, take_at}
+use Rattle.std.proofs.lemmas.List.Elements.{All-append, All-weaker}
 use Rattle.xn_model.specs.Types.{Types}
 use Rattle.xn_model.specs.Lives.{StoreState}
 use Rattle.treefs_format.specs.Candidates.{candidates, name_hash}
-use Rattle.treefs_format.specs.Fields.{AreInRange, fields_of}
-use Rattle.treefs_format.specs.Inodes.{inode_bytes, kind_of, mode_of}
-use Rattle.treefs_format.specs.Names.{is_dots, is_name, is_name_byte, is_name_length}
-use Rattle.treefs_format.specs.Paths.{leaf_count, steps}
+use Rattle.treefs_format.specs.Inodes.{inode_bytes}
+use Rattle.treefs_format.specs.Paths.{leaf_count}
 use Rattle.treefs_format.specs.declared.fields.Fields.{Fields}
 use Rattle.treefs_format.specs.declared.kind.Kind.{Kind}
 use Rattle.treefs_format.specs.declared.kind.Kind.TheVariants as kind
-use Rattle.std.specs.List.{list_all}
-use Rattle.treefs_model.specs.Acts.{Act, Ran}
-use Rattle.treefs_model.specs.Changes.{made, new_name, touched as touched_inode}
-use Rattle.treefs_model.specs.Files.{Content, Directory, Files, Inode, Names, and_then, changed_at, changed_in, found, linked_names, names_in, renamed_in, when, with_inode, with_name}
-use Rattle.treefs_model.specs.Reading.{content_at, files_of, inode_with, key_in, leaf_block, number_of}
-use Rattle.treefs_model.specs.declared.fault.Fault.{Fault}
-use Rattle.treefs_model.specs.declared.fault.Fault.TheVariants.{BadName, Exists, NoEntry}
-use Rattle.treefs_lookup.specs.Inodes.{directory_found, if_directory, inode_found}
-use Rattle.treefs_lookup.specs.Names.{slot_named}
+use Rattle.treefs_model.specs.Acts.{Ran}
+use Rattle.treefs_model.specs.Changes.{made, touched as touched_inode}
+use Rattle.treefs_model.specs.Files.{Inode, changed_at, with_inode, with_name}
+use Rattle.treefs_model.specs.Reading.{files_of, inode_with, key_in}
 use Rattle.treefs_lookup.specs.Readable.{readable}
-use Rattle.treefs_lookup.specs.declared.inodes.Found.{Found}
-use Rattle.treefs_lookup.specs.declared.names.Slot.{Slot}
-use Rattle.treefs_edits.specs.Memories.{Memory, touched_times, with_touched}
-use Rattle.treefs_edits.specs.Missing.{node_starts, path_starts}
-use Rattle.treefs_edits.specs.Plans.{Does, DoesPlanned}
+use Rattle.treefs_edits.specs.Memories.{with_touched}
+use Rattle.treefs_edits.specs.Missing.{node_starts}
+use Rattle.treefs_edits.specs.Plans.{Does}
 use Rattle.treefs_edits.specs.declared.memory.Touched.{Touched}
 use Rattle.treefs_edits.specs.declared.start.Start.{Start}
-use Rattle.treefs_edits.specs.declared.times.Times.{Times}
-use Rattle.treefs_name_plans.specs.Additions.{addition_starts, bucket_path}
+use Rattle.treefs_name_plans.specs.Additions.{addition_starts}
 use Rattle.treefs_name_plans.specs.CommitPlans.{IsCommitPlanned, commit_acts, commit_acts_of, commit_plan, table_nodes}
-use Rattle.treefs_name_plans.specs.NewPlans.{IsNewPlanned, new_plan}
-use Rattle.treefs_name_plans.specs.declared.addition.Addition.{Addition}
-use Rattle.treefs_name_plans.specs.declared.addition.Addition.TheVariants.{Behind, Rewritten, Made}
 use Rattle.treefs_name_plans.specs.declared.commit_plan.CommitPlan.{CommitPlan}
-use Rattle.treefs_name_plans.specs.declared.new_plan.NewPlan.{NewPlan}
 use Rattle.store_types.specs.declared.refusal.Refusal.{Refusal}
 use Rattle.xn_model.specs.Calls.{read_of}
 use Rattle.treefs.specs.Committing.{CommitDoes, committed_memory, if_readable}
-use Rattle.treefs.specs.Creating.{NewDoes, new_fields}
 use Rattle.treefs.specs.Remembered.{now_times}
-use Rattle.treefs.specs.Unlinking.{as_plan}
-use Rattle.treefs.specs.declared.attributes.Attributes.{Attributes}
 use Rattle.treefs.specs.declared.volume.Volume.{Volume}
 use Rattle.treefs_values.specs.Attached.{new_content}
 use Rattle.treefs_values.specs.Kinds.{kinds}
 use Rattle.treefs_values.specs.KnownLayout.{IsLayout}
-use Rattle.treefs_values.specs.Values.{found_value, led_to}
-use Rattle.treefs_values.specs.Ways.{IsWay, block_numbered}
+use Rattle.treefs_values.specs.Values.{led_to}
 use Rattle.treefs_values.proofs.ForCallers.{AreBegun, AreNew, AreOf, IsAt, IsDirectoryAt, IsFineStart, IsNew, New, bare_inode, begun_so, blocks_in, candidates_few, directory_stays, inode_offset, low_offset, of_long, of_parts}
 use Rattle.treefs_laws.specs.Kept.{IsKept, files_in}
-use Rattle.treefs_laws.specs.Making.{FitsAttributes, MakesInode, new_inode}
+use Rattle.treefs_laws.specs.Making.{MakesInode}
 use Rattle.treefs_laws.specs.Begun.{IsBegun}
 use Rattle.treefs_laws.specs.Open.{IsOpen}
 use Rattle.treefs_laws.proofs.Created.{made_there, nodes_long, seen_with}
 use Rattle.treefs_laws.specs.Seen.{AreTimes, IsSession, seen_files, seen_inode}
-use Rattle.treefs_laws.proofs.Attributed.{AreModes}
 use Rattle.treefs_laws.proofs.Begun.{fine_addition, fine_nodes}
-use Rattle.treefs_laws.proofs.InDirectory.{directory_here, is_new_name, name_long, number_few, seen_directory}
-use Rattle.treefs_laws.proofs.Named.{IsFirstNamed, StandsSince, first_named}
-use Rattle.treefs_laws.proofs.NewPlanned.{IsAddition, IsFirstPlan, IsFreeName, addition_is, commit_of, first_planned}
+use Rattle.treefs_laws.proofs.InDirectory.{directory_here, is_new_name, name_long, seen_directory}
+use Rattle.treefs_laws.proofs.Named.{first_named}
+use Rattle.treefs_laws.proofs.NewPlanned.{IsAddition, IsFirstPlan, addition_is, commit_of, first_planned}
 use Rattle.treefs_laws.proofs.Planned.{same_done, then_ok}
 use Rattle.treefs_laws.proofs.Seeing.{seen_named, seen_touched}
-use Rattle.treefs_laws.proofs.There.{changed_there, with_there}
-use Rattle.treefs_laws.proofs.Touching.{all_touched, not_there, once_touched}
+use Rattle.treefs_laws.proofs.Touching.{all_touched, once_touched}
 
 module _ (T : Types) (state state' : StoreState) (volume : Volume) (d : ℕ) (name : List ℕ) (is_open : IsOpen T state volume) (known : IsLayout)
     (wide : All (λ b. b < 256) name) (block : ℕ) (value : Inode) (y_is : IsBegun state volume block value) where

@@ -1,6 +1,6 @@
 -- A directory in which a name is free: where it stands, and what the files say of it.
-use Rattle.std.proofs.Common.{◌≡◌, ◌≢◌, ℕ, ◌+◌, ◌-◌, ◌<◌, ◌≤◌, ◌^◌, Bool, true, false, not, ◌&&◌, List, [], ◌∷◌, length, Option, None, Some, Result, Ok, Err, refl, sym, ◌∙◌, ap, arith, subst, if◌then◌else◌}
-use Rattle.std.specs.Prelude.{Contains, IsTrue, is_some, nat_le, nat_lt, option_map, ◌==◌, ◌||◌}
+use Rattle.std.proofs.Common.{◌≡◌, ◌≢◌, ℕ, ◌-◌, ◌<◌, ◌^◌, Bool, true, false, not, ◌&&◌, List, length, Option, None, Some, Result, Ok, Err, refl, sym, ◌∙◌, ap, arith, subst, if◌then◌else◌}
+use Rattle.std.specs.Prelude.{IsTrue, is_some, nat_le, nat_lt, option_map, ◌==◌, ◌||◌}
 use Rattle.std.specs.List.{list_all}
 use Rattle.std.specs.Option.{ok_or}
 use Rattle.std.proofs.lemmas.Bool.{and_parts, leb-true}
@@ -13,11 +13,11 @@ use Rattle.treefs_format.specs.Names.{is_dots, is_name, is_name_byte, is_name_le
 use Rattle.treefs_format.specs.declared.kind.Kind.{Kind}
 use Rattle.treefs_format.specs.declared.kind.Kind.TheVariants as kind
 use Rattle.treefs_model.specs.Changes.{new_name}
-use Rattle.treefs_model.specs.Files.{Content, Directory, Files, Inode, Names, and_then, directory_at, found, linked_names, names_in, when}
+use Rattle.treefs_model.specs.Files.{Directory, Files, Inode, Names, and_then, directory_at, found, linked_names, names_in, when}
 use Rattle.treefs_model.specs.Reading.{content_at, files_of, key_in, leaf_block, number_of}
 use Rattle.treefs_model.specs.declared.fault.Fault.{Fault}
 use Rattle.treefs_model.specs.declared.fault.Fault.TheVariants.{BadName, Exists, NoEntry}
-use Rattle.treefs_lookup.specs.Inodes.{directory_found, if_directory, inode_found}
+use Rattle.treefs_lookup.specs.Inodes.{if_directory, inode_found}
 use Rattle.treefs_lookup.specs.Names.{slot_named}
 use Rattle.treefs_lookup.specs.Readable.{readable}
 use Rattle.treefs_lookup.specs.declared.inodes.Found.{Found}

@@ -24,3 +24,5 @@ mod Beginning
 mod Listing
 mod Committed
 mod Replaced
+mod TimesWritten
+mod Refused

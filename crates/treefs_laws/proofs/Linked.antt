@@ -1,23 +1,23 @@
 -- An inode gets one more name.
-use Rattle.std.proofs.Common.{◌≡◌, ◌≢◌, ℕ, ℤ, ◌+◌, ◌-◌, ◌<◌, ◌≤◌, ◌^◌, Bool, true, false, ◌&&◌, List, [], ◌∷◌, ◌++◌, length, Option, None, Some, Result, Ok, Err, refl, sym, ◌∙◌, ap, inl, inr, arith, subst, if◌then◌else◌}
-use Rattle.std.specs.Prelude.{All, Contains, option_map, ◌==◌}
+use Rattle.std.proofs.Common.{◌≡◌, ◌≢◌, ℕ, ℤ, ◌+◌, ◌-◌, ◌<◌, ◌≤◌, ◌^◌, Bool, true, false, ◌&&◌, List, [], ◌∷◌, length, Option, None, Some, Result, Ok, Err, refl, sym, ◌∙◌, ap, inl, inr, arith, subst, if◌then◌else◌}
+use Rattle.std.specs.Prelude.{All, Contains, ◌==◌}
 use Rattle.std.specs.List.{list_all}
 use Rattle.std.specs.Option.{ok_or}
-use Rattle.std.proofs.lemmas.Bool.{cases_eq, eqb-false, ne_eqb}
+use Rattle.std.proofs.lemmas.Bool.{eqb-false, ne_eqb}
 use Rattle.std.proofs.lemmas.List.Elements.{All-weaker}
 use Rattle.std.proofs.lemmas.Option.{same_Some}
 use Rattle.xn_model.specs.Types.{Types}
 use Rattle.xn_model.specs.Lives.{StoreState}
 use Rattle.treefs_format.specs.Candidates.{candidates, name_hash}
-use Rattle.treefs_format.specs.Fields.{changed, fields_of}
+use Rattle.treefs_format.specs.Fields.{fields_of}
 use Rattle.treefs_format.specs.Inodes.{kind_of}
 use Rattle.treefs_format.specs.Paths.{leaf_count}
 use Rattle.treefs_format.specs.declared.fields.Change.{Change}
 use Rattle.treefs_format.specs.declared.kind.Kind.{Kind}
 use Rattle.treefs_format.specs.declared.kind.Kind.TheVariants as kind
-use Rattle.treefs_model.specs.Acts.{Act, Ran, changes_act}
+use Rattle.treefs_model.specs.Acts.{Ran, changes_act}
 use Rattle.treefs_model.specs.Changes.{linkable, linked, more_links, new_name, touched as touched_inode}
-use Rattle.treefs_model.specs.Files.{Content, Files, Inode, Names, and_then, changed_at, changed_in, directory_at, found, is_directory, is_orphan, renamed_in, with_inode, with_name}
+use Rattle.treefs_model.specs.Files.{Files, Inode, and_then, changed_at, found, is_directory, is_orphan, renamed_in, with_name}
 use Rattle.treefs_model.specs.Reading.{content_at, files_of, key_in}
 use Rattle.treefs_model.specs.declared.fault.Fault.{Fault}
 use Rattle.treefs_model.specs.declared.fault.Fault.TheVariants.{Full, IsDir, NoEntry, TooLarge}
@@ -29,10 +29,9 @@ use Rattle.treefs_edits.specs.Memories.{Memory, newest_times, touched_times, wit
 use Rattle.treefs_edits.specs.Plans.{Does, DoesPlanned}
 use Rattle.treefs_edits.specs.Rooms.{has_room, has_room_in}
 use Rattle.treefs_edits.specs.declared.memory.Touched.{Touched}
-use Rattle.treefs_edits.specs.declared.start.Start.{Start}
 use Rattle.treefs_edits.specs.declared.times.Times.{Times}
 use Rattle.treefs_edits.specs.declared.tree.Tree.{Tree}
-use Rattle.treefs_name_plans.specs.Additions.{addition_acts, addition_starts, rewriting}
+use Rattle.treefs_name_plans.specs.Additions.{addition_acts, addition_starts}
 use Rattle.treefs_name_plans.specs.Ends.{times_of}
 use Rattle.treefs_name_plans.specs.LinkPlans.{holder_of, if_linked, link_acts, link_in_room, link_plan, link_planned, linkable as plan_linkable, more_links as plan_more, one_more}
 use Rattle.treefs_name_plans.specs.NewNames.{addition_in, addition_parts, free_name}
@@ -47,20 +46,20 @@ use Rattle.treefs_values.specs.Kinds.{kinds}
 use Rattle.treefs_values.specs.KnownLayout.{IsLayout}
 use Rattle.treefs_values.specs.Values.{AreChanges, found_value, inode_with_links, led_to, links_parts}
 use Rattle.treefs_values.specs.Ways.{block_numbered}
-use Rattle.treefs_values.proofs.ForCallers.{AreBegun, AreNew, AreOf, IsAt, IsDirectoryAt, IsEdit, IsFound, IsNew, New, begun_so, blocks_in, candidates_few, directory_kept, directory_stays, edit_is, fields_files, fields_here, fields_inode, fields_keep, fields_key, found_inode, inodes_found, links_make, new_kept, same_size}
+use Rattle.treefs_values.proofs.ForCallers.{AreBegun, AreNew, AreOf, IsAt, IsDirectoryAt, IsEdit, IsFound, New, begun_so, blocks_in, candidates_few, directory_kept, directory_stays, edit_is, fields_files, fields_here, fields_inode, fields_keep, fields_key, found_inode, inodes_found, links_make, new_kept, same_size}
 use Rattle.treefs_laws.specs.Kept.{IsKept, files_in}
 use Rattle.treefs_laws.specs.Open.{IsOpen}
 use Rattle.treefs_laws.specs.Seen.{AreTimes, AreTouchedOnce, IsSession, seen_files, seen_inode, times_in}
 use Rattle.treefs_laws.proofs.Begun.{fine_addition}
 use Rattle.treefs_laws.proofs.InDirectory.{directory_here, is_directory_at, is_new_name, name_long, number_few, seen_directory}
 use Rattle.treefs_laws.proofs.InRange.{time_fits, word_fits}
-use Rattle.treefs_laws.proofs.Named.{IsNamed, IsPrepared, IsReady, addition_made, prepared_so, ready_stays}
+use Rattle.treefs_laws.proofs.Named.{IsPrepared, addition_made, prepared_so, ready_stays}
 use Rattle.treefs_laws.proofs.NamesEnd.{links_are_changes}
 use Rattle.treefs_laws.proofs.NewPlanned.{IsAddition, IsFreeName, addition_is, free_so}
 use Rattle.treefs_laws.proofs.Planned.{same_done, then_ok}
 use Rattle.treefs_laws.proofs.Seeing.{found_seen, seen_changed, seen_named, seen_touched}
 use Rattle.treefs_laws.proofs.There.{changed_there}
-use Rattle.treefs_laws.proofs.Touching.{all_touched, all_written_out, once_touched, once_written, others_written, times_fit, written_now}
+use Rattle.treefs_laws.proofs.Touching.{all_touched, all_written_out, once_touched, once_written, others_written, written_now}
 
 -- What was planned
 

@@ -1,25 +1,22 @@
 -- The buckets of a directory that are answered one after another list its names, each once.
-use Rattle.std.proofs.Common.{◌≡◌, ◌≢◌, ◌⊎◌, ℕ, zero, suc, ◌+◌, ◌-◌, ◌<◌, ◌≤◌, Bool, true, false, cond, not, ◌&&◌, ◌||◌, List, [], ◌∷◌, ◌++◌, length, get_or, Option, None, Some, Result, Ok, Err, refl, sym, ◌∙◌, ap, inl, inr, arith, subst, if◌then◌else◌}
-use Rattle.std.specs.Prelude.{⊤, ◌↔◌, Contains, IsTrue, MatchResult, filter, map, option_map, slice_get, ◌==◌}
+use Rattle.std.proofs.Common.{◌≡◌, ◌≢◌, ℕ, zero, suc, ◌+◌, ◌-◌, ◌<◌, ◌≤◌, Bool, true, false, cond, not, List, [], ◌∷◌, ◌++◌, length, get_or, Option, None, Some, Result, Ok, Err, refl, sym, ◌∙◌, ap, inl, inr, arith, subst, if◌then◌else◌}
+use Rattle.std.specs.Prelude.{⊤, Contains, IsTrue, MatchResult, filter, map, ◌==◌}
 use Rattle.std.specs.List.{list_any}
 use Rattle.std.proofs.lemmas.Bool.{and_from, and_parts, cases_eq, cases_lt, eq-eqb, ne_eqb, not-true, or_left, or_right, true≢false}
 use Rattle.std.proofs.lemmas.List.Elements.{Contains-append_cases, Contains-append_left, Contains-append_right}
-use Rattle.std.proofs.lemmas.Option.{get_or_from_slice_get, same_Some, slice_get_within}
+use Rattle.std.proofs.lemmas.Option.{get_or_from_slice_get, slice_get_within}
 use Rattle.xn_model.proofs.ForCallers.{Contains-cons, Contains-head, Contains-none, Contains-tail}
 use Rattle.xn_model.specs.Types.{Types}
 use Rattle.xn_model.specs.Lives.{StoreState}
 use Rattle.treefs_format.proofs.ForCallers.{no_length}
-use Rattle.treefs_format.specs.Buckets.{live_entries}
 use Rattle.treefs_format.specs.Candidates.{candidates, name_hash}
-use Rattle.treefs_format.specs.Fields.{fields_of}
-use Rattle.treefs_format.specs.Inodes.{kind_of}
 use Rattle.treefs_format.specs.Paths.{leaf_count}
-use Rattle.treefs_format.specs.Records.{Entry, Record, entries_of, entry_length, is_live, placed, records_of}
+use Rattle.treefs_format.specs.Records.{Entry, Record, entries_of, entry_length, is_live, placed}
 use Rattle.treefs_format.specs.declared.kind.Kind.{Kind}
 use Rattle.treefs_format.specs.declared.kind.Kind.TheVariants as kind
 use Rattle.treefs_model.specs.Changes.{IsListing}
-use Rattle.treefs_model.specs.Files.{Content, Directory, File, Inode, Names, SymbolicLink, and_then, found}
-use Rattle.treefs_model.specs.Reading.{bucket_of, content_at, files_of, key_in, leaf_block, number_of}
+use Rattle.treefs_model.specs.Files.{Content, Directory, File, Inode, Names, SymbolicLink}
+use Rattle.treefs_model.specs.Reading.{bucket_of, content_at, key_in, leaf_block, number_of}
 use Rattle.treefs_model.specs.Trees.{has_name, names_once}
 use Rattle.std.specs.Option.{ok_or}
 use Rattle.treefs_model.specs.declared.fault.Fault.{Fault}
@@ -31,13 +28,12 @@ use Rattle.treefs_lookup.specs.Sought.{AreWithout, IsNextBucket, has_live, is_hi
 use Rattle.treefs_lookup.specs.declared.bucket.Bucket.{Bucket}
 use Rattle.treefs_lookup.specs.declared.inodes.Found.{Found}
 use Rattle.treefs_lookup.specs.declared.sought.Sought.TheVariants.{Live}
-use Rattle.treefs.specs.Reads.{IsBucketFound, IsReadDirectory}
+use Rattle.treefs.specs.Reads.{IsBucketFound}
 use Rattle.treefs.specs.declared.volume.Volume.{Volume}
 use Rattle.treefs_values.specs.KnownLayout.{IsLayout}
-use Rattle.treefs_values.specs.Names.{HasNamesOnce, bucket_entries, first_number_in}
+use Rattle.treefs_values.specs.Names.{bucket_entries}
 use Rattle.treefs_values.specs.Volumes.{IsDirectory}
-use Rattle.treefs_values.specs.Ways.{block_numbered}
-use Rattle.treefs_values.proofs.ForCallers.{IsFound, IsLiveEntry, among_numbers, candidates_few, directory_is, has_of, in_leaf, live_leads, number_stands}
+use Rattle.treefs_values.proofs.ForCallers.{among_numbers, candidates_few, directory_is, has_of, in_leaf, live_leads, number_stands}
 use Rattle.treefs_laws.specs.Kept.{IsKept, files_in}
 use Rattle.treefs_laws.specs.Reading.{AreAnswered, listed_by, listed_in, named_number}
 use Rattle.treefs_laws.proofs.Planned.{same_done, then_ok}

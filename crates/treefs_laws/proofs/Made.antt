@@ -1,5 +1,5 @@
 -- What create, symlink and mkdir make of an open volume.
-use Rattle.std.proofs.Common.{◌≡◌, ℕ, ◌<◌, ◌≤◌, ◌^◌, List, [], None, Result, Ok, Err, refl, sym, ◌∙◌, ap, arith, subst}
+use Rattle.std.proofs.Common.{ℕ, ◌<◌, ◌≤◌, List, [], None, Ok, Err, refl, sym, arith, subst}
 use Rattle.std.specs.Prelude.{All, length}
 use Rattle.std.proofs.lemmas.List.Elements.{All-nil}
 use Rattle.xn_model.specs.Types.{Types}
@@ -7,9 +7,7 @@ use Rattle.xn_model.specs.Lives.{StoreState}
 use Rattle.treefs_format.specs.Inodes.{inode_bytes}
 use Rattle.treefs_format.specs.declared.kind.Kind.TheVariants as kind
 use Rattle.treefs_model.specs.Files.{Directory, File, SymbolicLink}
-use Rattle.treefs_model.specs.declared.fault.Fault.{Fault}
-use Rattle.treefs_name_plans.specs.declared.new_plan.NewPlan.{NewPlan}
-use Rattle.treefs.specs.Creating.{CreateDoes, MkdirDoes, NewDoes, SymlinkDoes, moved_volume, naming_entry, new_fields, number_of}
+use Rattle.treefs.specs.Creating.{CreateDoes, MkdirDoes, SymlinkDoes, naming_entry, new_fields}
 use Rattle.treefs.specs.declared.attributes.Attributes.{Attributes}
 use Rattle.treefs.specs.declared.volume.Volume.{Volume}
 use Rattle.treefs_values.specs.KnownLayout.{IsLayout}

@@ -1,8 +1,8 @@
 -- An inode is begun, gets its number, and a first name: what that makes of the store and of the files.
-use Rattle.std.proofs.Common.{◌≡◌, ◌≢◌, ℕ, zero, suc, ◌+◌, ◌-◌, ◌<◌, ◌≤◌, ◌^◌, List, [], ◌∷◌, ◌++◌, length, take, drop, Option, None, Some, Ok, refl, sym, ◌∙◌, ap, inl, inr, arith, subst, if◌then◌else◌}
+use Rattle.std.proofs.Common.{◌≡◌, ◌≢◌, ℕ, ◌+◌, ◌-◌, ◌<◌, ◌≤◌, ◌^◌, List, [], ◌∷◌, ◌++◌, length, take, drop, None, Some, Ok, refl, sym, ◌∙◌, ap, inl, inr, subst, if◌then◌else◌}
 use Rattle.std.specs.Prelude.{All, Contains, IsTrue, slice_index, ◌==◌}
-use Rattle.std.proofs.lemmas.List.{append-nil, drop_at, length-map, map-append, take_at}
-use Rattle.std.proofs.lemmas.List.Elements.{All-append, All-cons, All-weaker}
+use Rattle.std.proofs.lemmas.List.{append-nil}
+use Rattle.std.proofs.lemmas.List.Elements.{All-weaker}
 use Rattle.xn_model.specs.Types.{Types}
 use Rattle.xn_model.specs.Lives.{StoreState}
 use Rattle.treefs_format.specs.Buckets.{room_without}
@@ -17,7 +17,7 @@ use Rattle.treefs_format.specs.declared.fields.Fields.{Fields}
 use Rattle.treefs_format.specs.declared.kind.Kind.{Kind}
 use Rattle.treefs_format.specs.declared.kind.Kind.TheVariants as kind
 use Rattle.treefs_model.specs.Acts.{Act, Ran, attach_act, record_act}
-use Rattle.treefs_model.specs.Files.{Files, Inode, with_inode, with_name}
+use Rattle.treefs_model.specs.Files.{Inode, with_inode, with_name}
 use Rattle.treefs_model.specs.Reading.{block_at, bucket_of, files_of, inode_with, leaf_block}
 use Rattle.treefs_lookup.specs.Buckets.{bucket_block, bucket_start}
 use Rattle.treefs_lookup.specs.Readable.{readable}
@@ -28,15 +28,13 @@ use Rattle.treefs_edits.specs.declared.start.Start.{Start}
 use Rattle.treefs_name_plans.specs.Additions.{addition_acts, addition_starts, bucket_path, last_block, old_start, rewriting}
 use Rattle.treefs_name_plans.specs.declared.addition.Addition.{Addition}
 use Rattle.treefs_name_plans.specs.declared.addition.Addition.TheVariants.{Behind, Rewritten, Made}
-use Rattle.treefs_name_plans.specs.declared.addition.NewBucket.{NewBucket}
-use Rattle.treefs_name_plans.specs.declared.addition.OldBucket.{OldBucket}
 use Rattle.treefs_values.specs.Attached.{new_content}
 use Rattle.treefs_values.specs.Kinds.{kinds}
 use Rattle.treefs_values.specs.KnownLayout.{IsLayout}
 use Rattle.treefs_values.specs.Values.{led_to}
 use Rattle.treefs_values.specs.Ways.{IsWay, block_numbered}
-use Rattle.treefs_values.proofs.ForCallers.{AreFree, AreNew, AreOf, IsAlike, IsAt, IsBehind, IsDirectoryAt, IsEdit, IsKeptInode, IsLeafed, IsNew, IsOther, IsPlace, IsTabled, KeepsInodes, New, all_front, blocks_in, bucket_same, directory_names, directory_stays, edit_is, free_stays, inodes_stay, leafed_so, made_behind, new_kept, new_parts, of_long, of_parts, place_stays, placed_files, placed_here, rewritten_behind, rewritten_directory, rewritten_files, rewritten_here, rewritten_inode, rewritten_keeps, rewritten_ways, tabled_so}
-use Rattle.treefs_laws.proofs.NewPlanned.{IsAddition, IsToMake, IsToRewrite}
+use Rattle.treefs_values.proofs.ForCallers.{AreFree, AreNew, AreOf, IsAlike, IsAt, IsBehind, IsDirectoryAt, IsEdit, IsKeptInode, IsNew, IsOther, IsPlace, New, all_front, blocks_in, bucket_same, directory_names, directory_stays, edit_is, free_stays, inodes_stay, leafed_so, made_behind, new_kept, new_parts, place_stays, placed_files, placed_here, rewritten_behind, rewritten_directory, rewritten_files, rewritten_here, rewritten_inode, rewritten_keeps, rewritten_ways, tabled_so}
+use Rattle.treefs_laws.proofs.NewPlanned.{IsAddition, IsToMake}
 
 module _ (T : Types) (fs node inode top : ℕ) (few : fs < 32) (tree : IsTree T node inode) (known : IsLayout) (plan : StoreState) (d c : ℕ) (key name : List ℕ)
     (named : IsTrue (is_name name)) (range : All (λ b. b < 256) name) (long : length name < 256)

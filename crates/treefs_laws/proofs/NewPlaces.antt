@@ -1,27 +1,23 @@
 -- Where planners put the record of a new name.
-use Rattle.std.proofs.Common.{◌≡◌, ◌≢◌, ◌⊎◌, ℕ, ◌+◌, ◌-◌, ◌<◌, ◌≤◌, Bool, true, false, cond, not, ◌&&◌, ◌||◌, List, [], ◌∷◌, length, drop, Option, None, Some, Result, Ok, Err, refl, sym, ◌∙◌, ap, inl, inr, arith, subst, if◌then◌else◌}
-use Rattle.std.specs.Prelude.{Contains, IsTrue, bytes_eq, find, is_none, option_map, ◌==◌}
+use Rattle.std.proofs.Common.{◌≡◌, ◌≢◌, ℕ, ◌+◌, ◌-◌, ◌<◌, ◌≤◌, Bool, true, false, cond, not, ◌&&◌, ◌||◌, List, [], ◌∷◌, length, Option, None, Some, Ok, refl, sym, ◌∙◌, ap, inl, inr, arith, subst, if◌then◌else◌}
+use Rattle.std.specs.Prelude.{Contains, bytes_eq, find, is_none, option_map}
 use Rattle.std.specs.Option.{ok_or, option_or}
-use Rattle.std.proofs.lemmas.Bool.{and_parts, cases_eq, eq-eqb, leb-false, leb-true, ne_eqb, true≢false}
+use Rattle.std.proofs.lemmas.Bool.{and_parts, cases_eq, eq-eqb, leb-false, leb-true, ne_eqb}
 use Rattle.std.proofs.lemmas.Option.{same_Some}
 use Rattle.xn_model.proofs.ForCallers.{Contains-cons, Contains-head, Contains-none, Contains-tail}
 use Rattle.xn_model.specs.Lives.{StoreState}
 use Rattle.xn_model.specs.PendingIn.{newest_entry_of}
-use Rattle.treefs_format.specs.Buckets.{dead_record, has_name as record_has_name, live_entries, live_record, room_behind, room_without}
+use Rattle.treefs_format.specs.Buckets.{dead_record, has_name as record_has_name, live_record, room_behind, room_without}
 use Rattle.treefs_format.specs.Candidates.{candidates, name_hash}
-use Rattle.treefs_format.specs.Inodes.{content_of}
-use Rattle.treefs_format.specs.Records.{Entry, Record, end_of, entries_of, entry_length, is_live, placed, records_of, total_length}
+use Rattle.treefs_format.specs.Records.{Entry, Record, end_of, entries_of, entry_length, is_live, placed, records_of}
 use Rattle.treefs_model.specs.Reading.{bucket_of, leaf_block}
 use Rattle.treefs_model.specs.Trees.{has_name}
-use Rattle.treefs_model.specs.declared.fault.Fault.{Fault}
-use Rattle.treefs_model.specs.declared.fault.Fault.TheVariants.{NoEntry}
 use Rattle.treefs_lookup.specs.Buckets.{bucket_block, bucket_start}
-use Rattle.treefs_lookup.specs.Names.{dead_in, dead_of, dead_place, first_some, fits_behind, fits_without, free_place, no_place, place_of, place_or, room_at, room_in, room_or_new, slot_in, slot_named}
+use Rattle.treefs_lookup.specs.Names.{dead_in, dead_of, dead_place, first_some, fits_behind, fits_without, free_place, no_place, place_of, place_or, room_at, room_in, slot_in, slot_named}
 use Rattle.treefs_lookup.specs.Readable.{readable}
-use Rattle.treefs_lookup.specs.declared.names.Slot.{Slot}
 use Rattle.treefs_lookup.specs.declared.places.NamePlace.{NamePlace}
 use Rattle.treefs_lookup.specs.declared.places.NamePlace.TheVariants as place
-use Rattle.treefs_values.proofs.ForCallers.{AreFree, IsBehind, IsOwn, IsPlace, in_leaf, same_bytes, same_eq}
+use Rattle.treefs_values.proofs.ForCallers.{AreFree, IsPlace, same_bytes}
 use Rattle.treefs_laws.proofs.Planned.{same_done}
 
 -- The first bucket that has something

@@ -1,6 +1,6 @@
 -- What planners found of a new name.
 use Rattle.std.proofs.Common.{◌≡◌, ◌≢◌, ◌⊎◌, ℕ, ◌+◌, ◌-◌, ◌<◌, ◌≤◌, Bool, true, false, ◌&&◌, List, [], ◌∷◌, length, drop, Option, None, Some, Result, Ok, Err, refl, sym, ◌∙◌, ap, inl, inr, arith, subst, if◌then◌else◌}
-use Rattle.std.specs.Prelude.{Contains, IsTrue, MatchResult, is_some, ◌==◌}
+use Rattle.std.specs.Prelude.{Contains, MatchResult, is_some, ◌==◌}
 use Rattle.std.specs.List.{list_all}
 use Rattle.std.specs.Option.{ok_or}
 use Rattle.std.proofs.lemmas.Bool.{cases_eq, eq-eqb, ne_eqb}
@@ -14,10 +14,10 @@ use Rattle.treefs_format.specs.Roots.{leaf_of_inode}
 use Rattle.treefs_model.specs.Files.{and_then}
 use Rattle.treefs_model.specs.Reading.{bucket_of, key_in, leaf_block}
 use Rattle.treefs_model.specs.declared.fault.Fault.{Fault}
-use Rattle.treefs_model.specs.declared.fault.Fault.TheVariants.{BadName, Exists, Full, NoEntry}
+use Rattle.treefs_model.specs.declared.fault.Fault.TheVariants.{BadName, Full, NoEntry}
 use Rattle.treefs_lookup.specs.Buckets.{bucket_block, bucket_start}
-use Rattle.treefs_lookup.specs.Inodes.{directory_found, inode_found}
-use Rattle.treefs_lookup.specs.Names.{entry_found, named_in, place_of, slot_named}
+use Rattle.treefs_lookup.specs.Inodes.{directory_found}
+use Rattle.treefs_lookup.specs.Names.{named_in, place_of, slot_named}
 use Rattle.treefs_lookup.specs.Numbers.{IsNextNumber}
 use Rattle.treefs_lookup.specs.Readable.{readable}
 use Rattle.treefs_lookup.specs.Walks.{reach}
@@ -47,8 +47,8 @@ use Rattle.std.proofs.lemmas.Option.{same_Some}
 use Rattle.xn_model.specs.PendingIn.{newest_entry_of}
 use Rattle.treefs_name_plans.specs.declared.naming.Naming.TheVariants.{Added, Replaced}
 use Rattle.treefs_name_plans.specs.declared.new_plan.NewPlan.{NewPlan}
-use Rattle.treefs_values.proofs.ForCallers.{AreFree, IsFound, IsPlace, directory_is, in_leaf}
-use Rattle.treefs_laws.proofs.NewPlaces.{IsMissing, IsPlaceFor, IsRewritten, place_for}
+use Rattle.treefs_values.proofs.ForCallers.{AreFree, IsPlace, in_leaf}
+use Rattle.treefs_laws.proofs.NewPlaces.{IsPlaceFor, place_for}
 use Rattle.treefs_laws.proofs.Planned.{same_done, then_ok}
 
 -- A name that is free

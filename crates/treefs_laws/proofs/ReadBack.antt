@@ -1,5 +1,5 @@
 -- What reads of files and of symbolic links answer.
-use Rattle.std.proofs.Common.{◌≡◌, ◌≢◌, ℕ, ◌+◌, ◌-◌, ◌<◌, ◌≤◌, List, [], ◌∷◌, ◌++◌, length, take, drop, get_or, Option, None, Some, Result, Ok, Err, refl, sym, ◌∙◌, ap, arith, subst}
+use Rattle.std.proofs.Common.{◌≡◌, ℕ, ◌+◌, ◌-◌, ◌<◌, ◌≤◌, List, length, take, drop, Result, Ok, Err, refl, sym, ◌∙◌, ap, arith, subst}
 use Rattle.std.specs.Prelude.{map, min}
 use Rattle.std.specs.List.{range_with_len}
 use Rattle.std.proofs.lemmas.List.{drop_at, get_or-drop, get_or-take, length-drop, length-map, length-take, same_lists, take_at}
@@ -11,8 +11,8 @@ use Rattle.treefs_format.specs.declared.fields.Fields.{Fields}
 use Rattle.treefs_format.specs.declared.kind.Kind.{Kind}
 use Rattle.treefs_format.specs.declared.kind.Kind.TheVariants as kind
 use Rattle.treefs_model.specs.Changes.{read, target}
-use Rattle.treefs_model.specs.Files.{Content, Files, Inode, and_then, bytes_in, file_at, found, target_in}
-use Rattle.treefs_model.specs.Reading.{byte_of, bytes_of, content_at, inode_with, key_in}
+use Rattle.treefs_model.specs.Files.{Inode, and_then, bytes_in, file_at, found, target_in}
+use Rattle.treefs_model.specs.Reading.{byte_of, bytes_of, content_at, key_in}
 use Rattle.treefs_model.specs.declared.fault.Fault.{Fault}
 use Rattle.treefs_lookup.specs.Bytes.{bytes_from, count_from, file_end, read_count, read_into}
 use Rattle.treefs_lookup.specs.Inodes.{file_found, if_bytes, if_link, inode_found, link_found}
@@ -23,7 +23,7 @@ use Rattle.treefs_byte_plans.specs.Attributes.{times_of}
 use Rattle.treefs.specs.Reads.{with_times}
 use Rattle.treefs.specs.declared.volume.Volume.{Volume}
 use Rattle.treefs_values.specs.Values.{found_value}
-use Rattle.treefs_values.proofs.ForCallers.{IsFound, found_inode}
+use Rattle.treefs_values.proofs.ForCallers.{found_inode}
 use Rattle.treefs_laws.specs.Kept.{files_in}
 use Rattle.treefs_laws.proofs.LookUps.{told}
 

@@ -1,9 +1,9 @@
 -- An inode that was begun gets its first name, in the place of what had the name, if something had.
-use Rattle.std.proofs.Common.{◌≡◌, ◌≢◌, ℕ, ℤ, ◌-◌, ◌<◌, ◌≤◌, ◌^◌, Bool, true, false, not, List, [], ◌∷◌, ◌++◌, length, take, Option, None, Some, Result, Ok, Err, refl, sym, ◌∙◌, ap, inl, inr, arith, subst, if◌then◌else◌}
-use Rattle.std.specs.Prelude.{All, drop, is_some, nat_le, option_map, slice_index, ◌==◌}
+use Rattle.std.proofs.Common.{◌≡◌, ◌≢◌, ℕ, ℤ, ◌-◌, ◌<◌, ◌^◌, Bool, true, false, not, List, [], ◌∷◌, ◌++◌, length, take, Option, None, Some, Result, Ok, Err, refl, sym, ◌∙◌, ap, inl, inr, arith, subst, if◌then◌else◌}
+use Rattle.std.specs.Prelude.{All, is_some, nat_le, option_map, ◌==◌}
 use Rattle.std.specs.Option.{ok_or}
 use Rattle.std.proofs.lemmas.Bool.{cases_eq, eq-eqb, ne_eqb}
-use Rattle.std.proofs.lemmas.List.{append-nil, length-map, map-append, take_at}
+use Rattle.std.proofs.lemmas.List.{length-map, map-append, take_at}
 use Rattle.std.proofs.lemmas.List.Elements.{All-append, All-cons, All-nil, All-weaker}
 use Rattle.std.proofs.lemmas.Option.{same_Some}
 use Rattle.xn_model.specs.Types.{Types}
@@ -11,7 +11,6 @@ use Rattle.xn_model.specs.Lives.{StoreState}
 use Rattle.treefs_format.specs.Fields.{fields_of}
 use Rattle.treefs_format.specs.Inodes.{kind_of}
 use Rattle.treefs_format.specs.Paths.{leaf_count}
-use Rattle.treefs_format.specs.declared.kind.Kind.{Kind}
 use Rattle.treefs_format.specs.declared.kind.Kind.TheVariants as kind
 use Rattle.treefs_model.specs.Acts.{Act, Ran, number_act}
 use Rattle.treefs_model.specs.Changes.{less_links, lost, made, new_name, replaceable, replaced, touched as touched_inode}
@@ -19,18 +18,17 @@ use Rattle.treefs_model.specs.Files.{Files, Inode, Names, and_then, changed_at, 
 use Rattle.treefs_model.specs.Reading.{files_of, inode_with, key_in}
 use Rattle.treefs_model.specs.declared.fault.Fault.{Fault}
 use Rattle.treefs_model.specs.declared.fault.Fault.TheVariants.{Exists, IsDir, NoEntry}
-use Rattle.treefs_lookup.specs.Inodes.{directory_found, inode_found}
-use Rattle.treefs_lookup.specs.Names.{entry_found, named_in}
+use Rattle.treefs_lookup.specs.Inodes.{inode_found}
+use Rattle.treefs_lookup.specs.Names.{entry_found}
 use Rattle.treefs_lookup.specs.Readable.{readable}
 use Rattle.treefs_lookup.specs.declared.inodes.Found.{Found}
 use Rattle.treefs_edits.specs.Memories.{with_touched}
 use Rattle.treefs_edits.specs.Missing.{node_starts}
 use Rattle.treefs_edits.specs.Plans.{Does}
-use Rattle.treefs_edits.specs.Written.{all_written}
 use Rattle.treefs_edits.specs.declared.memory.Touched.{Touched}
 use Rattle.treefs_edits.specs.declared.start.Start.{Start}
 use Rattle.treefs_edits.specs.declared.times.Times.{Times}
-use Rattle.treefs_name_plans.specs.CommitPlans.{commit_acts, commit_acts_of, commit_plan, table_nodes, table_path}
+use Rattle.treefs_name_plans.specs.CommitPlans.{commit_acts, commit_acts_of, commit_plan, table_nodes}
 use Rattle.treefs_name_plans.specs.Ends.{name_end, times_of}
 use Rattle.treefs_name_plans.specs.Links.{link_act}
 use Rattle.treefs_name_plans.specs.declared.commit_plan.CommitPlan.{CommitPlan}
@@ -45,18 +43,17 @@ use Rattle.treefs_values.specs.KnownLayout.{IsLayout}
 use Rattle.treefs_values.specs.Values.{KeepsBlocks, inode_with_links, led_to}
 use Rattle.treefs_values.specs.Volumes.{IsVolume}
 use Rattle.treefs_values.specs.Ways.{block_numbered}
-use Rattle.treefs_values.proofs.ForCallers.{AreBegun, AreNew, AreOf, IsAt, IsEntry, IsFineStart, IsFound, IsNew, IsOther, KeepsInodes, New, acts_read, all_front, begun_so, blocks_in, directory_is, entry_is, entry_still, found_inode, found_still, inodes_then, name_led, new_parts, of_long, of_parts, tabled_so}
+use Rattle.treefs_values.proofs.ForCallers.{AreBegun, AreNew, AreOf, IsAt, IsEntry, IsFineStart, IsFound, IsNew, IsOther, KeepsInodes, New, acts_read, all_front, begun_so, blocks_in, entry_is, entry_still, found_inode, found_still, inodes_then, name_led, new_parts, of_long, of_parts, tabled_so}
 use Rattle.treefs_laws.specs.Kept.{IsKept, files_in}
-use Rattle.treefs_laws.specs.Making.{MakesInode}
 use Rattle.treefs_laws.specs.Begun.{IsBegun}
 use Rattle.treefs_laws.specs.Open.{IsOpen}
 use Rattle.treefs_laws.specs.Seen.{AreTimes, AreTouchedOnce, IsSession, seen_files, seen_inode, times_in}
 use Rattle.treefs_laws.proofs.Begun.{fine_nodes}
 use Rattle.treefs_laws.proofs.Committed.{IsPlanned, empty, first_said, here, is_new, planned_so, y}
 use Rattle.treefs_laws.proofs.Created.{made_there, nodes_long, seen_with}
-use Rattle.treefs_laws.proofs.Ended.{apart, fewer, left_by, times_by}
+use Rattle.treefs_laws.proofs.Ended.{apart, fewer, times_by}
 use Rattle.treefs_laws.proofs.NamesEnd.{fit, inode_seen, links_are_changes, newest, number_is, short, touched_session, value, value_there}
-use Rattle.treefs_laws.proofs.NewPlanned.{IsFirstPlan, IsSecondPlan, replacing_of, second_planned}
+use Rattle.treefs_laws.proofs.NewPlanned.{IsSecondPlan, replacing_of, second_planned}
 use Rattle.treefs_laws.proofs.Planned.{ended_is, same_done, then_ok}
 use Rattle.treefs_laws.proofs.Seeing.{seen_changed, seen_named, seen_touched}
 use Rattle.treefs_laws.proofs.StillOpen.{directory_there, ran_root, still_written}

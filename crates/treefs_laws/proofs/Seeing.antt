@@ -73,7 +73,7 @@ module _ (touched : List Touched) (files : Files) where
 -- An inode that is touched
 
 module _ (one : List Touched) (files : Files) (d : ℕ) (times : Times) where
-  unchanged : (n : ℕ) → changed_at files d (λ inode. inode) n ≡ files n
+  pub unchanged : (n : ℕ) → changed_at files d (λ inode. inode) n ≡ files n
   unchanged n = elim (cases_eq n d) [
     | inl is ↦ ap (λ t. if t then changed_in (λ inode. inode) (files d) else files n) (eq-eqb n d is) ∙ (same (files d) ∙ ap files (sym is))
     | inr ne ↦ ap (λ t. if t then changed_in (λ inode. inode) (files d) else files n) (ne_eqb n d ne)

@@ -1,6 +1,6 @@
 -- Calls leave an open volume open.
-use Rattle.std.proofs.Common.{◌≡◌, ◌≢◌, ℕ, ℤ, ◌+◌, ◌≤◌, ◌<◌, ◌^◌, Bool, true, false, not, List, [], ◌∷◌, ◌++◌, length, Option, None, Some, Result, Ok, Err, refl, sym, ◌∙◌, ap, inl, inr, subst, if◌then◌else◌}
-use Rattle.std.specs.Prelude.{All, FitsSigned, IsTrue, MatchBool, drop, map}
+use Rattle.std.proofs.Common.{◌≡◌, ◌≢◌, ℕ, ℤ, ◌<◌, ◌^◌, Bool, true, false, not, List, [], ◌∷◌, ◌++◌, Option, None, Some, Result, Ok, Err, refl, sym, ◌∙◌, ap, inl, inr, subst, if◌then◌else◌}
+use Rattle.std.specs.Prelude.{All, FitsSigned, drop, map}
 use Rattle.std.specs.Int.{w64}
 use Rattle.std.specs.Option.{ok_or}
 use Rattle.std.proofs.lemmas.List.Elements.{All-cons, All-head, All-nil, All-tail, All-weaker}
@@ -10,28 +10,21 @@ use Rattle.xn_model.specs.Calls.{root_of}
 use Rattle.xn_model.specs.Rules.{IsConsistent}
 use Rattle.treefs_format.specs.Templates.{IsTree}
 use Rattle.treefs_model.specs.Acts.{Act, Ran, number_act, wait_act}
-use Rattle.treefs_model.specs.Changes.{less_links, removed, touched as touched_inode, unlinked, with_mtime, without_name}
-use Rattle.treefs_model.specs.Files.{Files, Inode, Names, and_then, changed_at, directory_at, found, is_directory, linked_names, names_for, number_in, renamed_in, when, with_name}
-use Rattle.treefs_model.specs.Reading.{files_of}
+use Rattle.treefs_model.specs.Changes.{less_links, touched as touched_inode, with_mtime, without_name}
+use Rattle.treefs_model.specs.Files.{Files, Inode, and_then, changed_at, found, is_directory, linked_names, number_in, renamed_in, when, with_name}
 use Rattle.treefs_model.specs.declared.fault.Fault.{Fault}
 use Rattle.treefs_model.specs.declared.fault.Fault.TheVariants.{BadName, IsDir, NoEntry, NotDir, NotEmpty}
 use Rattle.treefs_format.specs.Names.{is_name}
-use Rattle.treefs_lookup.specs.Readable.{readable}
-use Rattle.treefs_edits.specs.Memories.{with_touched, without_touched}
-use Rattle.treefs_edits.specs.Plans.{Begins, Does, DoesPlanned}
-use Rattle.treefs_edits.specs.Rooms.{has_room}
+use Rattle.treefs_edits.specs.Plans.{DoesPlanned}
 use Rattle.treefs_edits.specs.declared.memory.Touched.{Touched}
-use Rattle.treefs_edits.specs.declared.start.Start.{Start}
 use Rattle.treefs_edits.specs.declared.times.Times.{Times}
 use Rattle.treefs_byte_plans.specs.Attributes.{attributes_act, attributes_plan, attributes_planned}
 use Rattle.treefs_byte_plans.specs.declared.attributes.Attributes.{Attributes}
 use Rattle.treefs_byte_plans.specs.declared.attributes.AttributesPlan.{AttributesPlan}
-use Rattle.treefs_name_plans.specs.Ends.{end_acts, end_plan}
+use Rattle.treefs_name_plans.specs.Ends.{end_acts}
 use Rattle.treefs_name_plans.specs.Links.{link_act}
-use Rattle.treefs_name_plans.specs.Removals.{first_of, removal_acts, removal_plan}
-use Rattle.treefs_name_plans.specs.declared.end.EndPlan.{EndPlan}
+use Rattle.treefs_name_plans.specs.Removals.{first_of, removal_acts}
 use Rattle.treefs_name_plans.specs.declared.name_end.NameEnd.{NameEnd}
-use Rattle.treefs_name_plans.specs.declared.removal.RemovalPlan.{RemovalPlan}
 use Rattle.treefs.specs.Changed.{changed_volume}
 use Rattle.treefs.specs.Remembered.{ended_memory, now_times, written_times}
 use Rattle.treefs.specs.Setting.{AttributesDoes, MtimeDoes, mtime_volume}

@@ -1,5 +1,5 @@
 -- Inodes that are there stay there.
-use Rattle.std.proofs.Common.{◌≡◌, ◌≢◌, ℕ, List, Option, None, Some, refl, sym, ◌∙◌, ap, inl, inr, if◌then◌else◌}
+use Rattle.std.proofs.Common.{◌≢◌, ℕ, Option, None, Some, refl, sym, ◌∙◌, ap, inl, inr, if◌then◌else◌}
 use Rattle.std.proofs.lemmas.Bool.{cases_eq, eq-eqb, ne_eqb}
 use Rattle.treefs_model.specs.Files.{Files, Inode, changed_at, changed_in, with_inode}
 

@@ -79,10 +79,10 @@ module _ (x : Touched) (xs : List Touched) (m : ℕ) (else_times : Times) where
   abbrev read_by : Bool → Times
   read_by b = times_in (cond b (Some x) (find (is m) xs)) else_times
 
-  read_here : x.number ≡ m → touched_times (x ∷ xs) m else_times ≡ x.times
+  pub read_here : x.number ≡ m → touched_times (x ∷ xs) m else_times ≡ x.times
   read_here e = ap read_by (eq-eqb x.number m e)
 
-  read_behind : x.number ≢ m → touched_times (x ∷ xs) m else_times ≡ touched_times xs m else_times
+  pub read_behind : x.number ≢ m → touched_times (x ∷ xs) m else_times ≡ touched_times xs m else_times
   read_behind ne = ap read_by (ne_eqb x.number m ne)
 
 module _ (n : ℕ) (times else_times : Times) where

@@ -5,3 +5,4 @@ pub mod Making
 pub mod Reading
 pub mod Begun
 pub mod Setting
+pub mod Refusals

@@ -1,14 +1,16 @@
 // Laws of calls.
 
-ghost use Rattle.std.specs.Prelude.{◌≡◌, ◌≢◌, ◌<◌, ◌≤◌, ℕ, ℤ, All, FitsSigned, List, None, Some, Ok, Result, [], drop, false, length, take, true};
+ghost use Rattle.std.specs.Prelude.{◌≡◌, ◌≢◌, ◌⊎◌, ◌<◌, ◌≤◌, ℕ, ℤ, All, FitsSigned, List, None, Some, Ok, Err, Result, [], drop, false, length, take, true};
 ghost use Rattle.std.specs.Int.{w64};
 ghost use Rattle.xn_model.specs.Types.{Types};
 ghost use Rattle.xn_model.specs.Lives.{StoreState};
+ghost use Rattle.store_types.specs.declared.refusal.Refusal.{Refusal};
 ghost use Rattle.treefs_format.specs.declared.kind.Kind.{Kind};
 ghost use Rattle.treefs_format.specs.declared.kind.Kind.TheVariants as kinds;
 ghost use Rattle.treefs_model.specs.Changes.{IsListing, linked, read, removed, replaced, target, unlinked, with_mtime};
 ghost use Rattle.treefs_model.specs.Files.{Directory, File, Inode, Names, SymbolicLink, and_then, changed_at, found, number_in};
 ghost use Rattle.treefs_model.specs.declared.fault.Fault.{Fault};
+ghost use Rattle.treefs_model.specs.declared.fault.Fault.TheVariants.{Full, Kernel};
 ghost use Rattle.treefs_lookup.specs.Bytes.{read_count, read_into};
 ghost use Rattle.treefs_lookup.specs.Inodes.{file_found, link_found};
 ghost use Rattle.treefs_lookup.specs.Readable.{readable};
@@ -20,6 +22,7 @@ ghost use Rattle.treefs.specs.Linking.{LinkDoes};
 ghost use Rattle.treefs.specs.Reads.{lookup_of, stat_of};
 ghost use Rattle.treefs.specs.Setting.{AttributesDoes, MtimeDoes};
 ghost use Rattle.treefs.specs.Unlinking.{RmdirDoes, UnlinkDoes};
+ghost use Rattle.treefs.specs.WritingTimes.{WriteTimesDoes};
 ghost use Rattle.treefs.specs.declared.attributes.Attributes.{Attributes as NewAttributes};
 ghost use Rattle.treefs.specs.declared.volume.Volume.{Volume};
 ghost use Rattle.treefs_values.specs.Attached.{new_content};
@@ -30,6 +33,7 @@ ghost use Rattle.treefs_laws.specs.Kept.{HasNoNames, IsKept, files_in};
 ghost use Rattle.treefs_laws.specs.Making.{FitsAttributes, MakesInode, new_inode};
 ghost use Rattle.treefs_laws.specs.Open.{IsOpen};
 ghost use Rattle.treefs_laws.specs.Reading.{AreAnswered, HasFewBytes, listed_by, read_bytes};
+ghost use Rattle.treefs_laws.specs.Refusals.{IsWant};
 ghost use Rattle.treefs_laws.specs.Setting.{AreInWidth, with_attributes};
 
 use treefs_format::law::modes_are_read_back;
@@ -178,6 +182,33 @@ pub fn commit_replaces_a_name()
 {
     layout_is_known();
 }
+
+/// `write_times` changes no file, whatever it answers: the times that were only touched are those of the files already.
+pub fn write_times_changes_no_file()
+    ensures { (T : Types) (state state' : StoreState) (volume volume' : Volume) (result : Result (Unit {0}) Fault) → IsOpen T state volume →
+        WriteTimesDoes T state state' volume volume' result → IsOpen T state' volume' × (files_in state' volume' ≡ files_in state volume) }
+{
+    layout_is_known();
+}
+
+/// `set_attributes` and `set_mtime` that are refused leave all as it was. They answer that no such inode is there, want of room, or the store's refusal.
+pub fn refused_attributes_change_nothing()
+    ensures attributes { (T : Types) (state state' : StoreState) (volume volume' : Volume) (n : ℕ) (attributes : Attributes) (fault : Fault) →
+        AttributesDoes T state state' volume volume' n attributes (Err fault) →
+        (state' ≡ state) × (volume' ≡ volume) × ((found (files_in state volume) n ≡ Err fault) ⊎ IsWant fault) }
+    ensures times { (state : StoreState) (volume volume' : Volume) (n : ℕ) (mtime : ℤ) (fault : Fault) →
+        MtimeDoes state volume volume' n mtime (Err fault) → (volume' ≡ volume) × ((found (files_in state volume) n ≡ Err fault) ⊎ IsWant fault) }
+{}
+
+/// `unlink` that is refused leaves the session as it was, and answers what the files say, or that there is no room, and then all is as it was;
+/// or it answers the store's refusal.
+pub fn refused_unlink_answers_the_files()
+    ensures { (T : Types) (state state' : StoreState) (volume volume' : Volume) (d : ℕ) (name : List ℕ) (fault : Fault) →
+        UnlinkDoes T state state' volume volume' d name (Err fault) →
+        (volume' ≡ volume)
+        × (((state' ≡ state) × ((unlinked (files_in state volume) volume.memory.clock d name ≡ Err fault) ⊎ (fault ≡ Full)))
+        ⊎ ((reason : Refusal) × (fault ≡ Kernel reason))) }
+{}
 
 /// An open volume is one still once `set_mtime`, `set_attributes`, `unlink` or `rmdir` is done.
 pub fn open_volumes_stay_open()

@@ -1,15 +1,14 @@
 -- A record is made where a record of its name stands: the number is set, and nothing else.
 use mathlib.Core.Path.{fun_ext}
-use Rattle.std.proofs.Common.{◌≡◌, ◌≢◌, ℕ, ◌+◌, ◌-◌, ◌<◌, ◌≤◌, ◌^◌, List, [], ◌∷◌, ◌++◌, length, take, drop, Option, Some, refl, sym, ◌∙◌, ap, inl, inr, arith, subst, append_assoc, if◌then◌else◌}
-use Rattle.std.specs.Prelude.{All, Contains, ◌==◌}
+use Rattle.std.proofs.Common.{◌≡◌, ◌≢◌, ℕ, ◌+◌, ◌-◌, ◌<◌, ◌≤◌, ◌^◌, List, [], ◌++◌, length, take, drop, Option, Some, refl, sym, ◌∙◌, ap, inl, inr, arith, subst, append_assoc, if◌then◌else◌}
+use Rattle.std.specs.Prelude.{Contains, ◌==◌}
 use Rattle.std.specs.Int.{w32, to_le_bytes}
 use Rattle.std.proofs.lemmas.Bool.{cases_eq, ne_eqb}
-use Rattle.std.proofs.lemmas.List.{drop-drop, length-drop, length-take-le, take-append-drop, take_at}
+use Rattle.std.proofs.lemmas.List.{drop-drop, length-take-le, take-append-drop}
 use Rattle.std.proofs.Math.Seq.{take-append-add}
 use Rattle.xn_model.specs.Lists.{put}
 use Rattle.xn_model.proofs.ForCallers.{Contains-none}
 use Rattle.treefs_format.proofs.ForCallers.{no_length}
-use Rattle.treefs_format.specs.Buckets.{with_number}
 use Rattle.treefs_format.specs.Fields.{fields_of}
 use Rattle.treefs_format.specs.Inodes.{content_of, kind_of}
 use Rattle.treefs_format.specs.Paths.{leaf_count}

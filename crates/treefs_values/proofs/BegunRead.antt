@@ -1,6 +1,6 @@
 -- What a file system reads once a block is begun.
 use mathlib.Core.Path.{fun_ext}
-use Rattle.std.proofs.Common.{◌≡◌, ◌≢◌, ◌⊎◌, ℕ, ◌<◌, true, List, [], Some, Ok, refl, sym, ◌∙◌, ap, inl, inr, arith, ◌≤◌, ◌^◌, length, None, subst, if◌then◌else◌}
+use Rattle.std.proofs.Common.{◌≡◌, ◌≢◌, ◌⊎◌, ℕ, ◌<◌, true, List, [], Some, Ok, refl, sym, ◌∙◌, ap, inl, inr, arith, ◌^◌, None, subst, if◌then◌else◌}
 use Rattle.std.specs.Prelude.{IsTrue, ◌==◌}
 use Rattle.std.proofs.lemmas.Bool.{cases_eq, eq-eqb, ne_eqb}
 use Rattle.xn_model.specs.Types.{Types}

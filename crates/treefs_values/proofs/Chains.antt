@@ -1,11 +1,10 @@
 -- New blocks are attached one below the other: nodes of the table or of an inode, and a leaf of zeros.
 use mathlib.Core.Path.{fun_ext}
-use Rattle.std.proofs.Common.{◌≡◌, ◌≢◌, ◌⊎◌, ℕ, zero, suc, ◌+◌, ◌*◌, ◌-◌, ◌/◌, ◌%◌, ◌<◌, ◌≤◌, ◌^◌, Bool, true, List, [], ◌∷◌, ◌++◌, length, Option, None, Some, Ok, refl, sym, ◌∙◌, ap, inl, inr, arith, subst, if◌then◌else◌}
-use Rattle.std.specs.Prelude.{⊤, All, IsTrue, map, slice_index, ◌==◌}
+use Rattle.std.proofs.Common.{◌≡◌, ◌≢◌, ℕ, suc, ◌+◌, ◌*◌, ◌%◌, ◌<◌, ◌≤◌, true, List, [], ◌∷◌, ◌++◌, length, None, Some, Ok, refl, sym, ◌∙◌, ap, inl, inr, arith, subst, if◌then◌else◌}
+use Rattle.std.specs.Prelude.{⊤, All, IsTrue, map, slice_index}
 use Rattle.std.proofs.lemmas.Bool.{cases_eq, eq-eqb, ne_eqb}
-use Rattle.std.proofs.lemmas.List.Elements.{All-cons, All-head, All-nil, All-tail}
+use Rattle.std.proofs.lemmas.List.Elements.{All-head, All-tail}
 use Rattle.xn_model.specs.Types.{Types}
-use Rattle.xn_model.specs.BareDisks.{zeros}
 use Rattle.xn_model.specs.Lives.{StoreState}
 use Rattle.xn_model.specs.Calls.{patched, root_of}
 use Rattle.xn_model.specs.Root.{word_at}
@@ -24,7 +23,7 @@ use Rattle.treefs_values.specs.Attached.{IsPointerSet}
 use Rattle.treefs_values.specs.Kinds.{kinds}
 use Rattle.treefs_values.specs.KnownLayout.{IsLayout}
 use Rattle.treefs_values.specs.Volumes.{IsVolume, IsWholeBlock}
-use Rattle.treefs_values.specs.Ways.{ArePointersApart, IsFirst, IsWay, block_numbered}
+use Rattle.treefs_values.specs.Ways.{ArePointersApart, IsWay, block_numbered}
 use Rattle.treefs_values.proofs.EmptyBlocks.{empty_files, empty_names, empty_there, empty_volume, table_inodes}
 use Rattle.treefs_values.proofs.NewInodes.{bare_node}
 use Rattle.treefs_values.proofs.Pending.{AreNew, IsNew, IsOther, New, at_other, new_attached, new_kept, way_pointer}

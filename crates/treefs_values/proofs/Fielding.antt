@@ -1,5 +1,5 @@
 -- Fields of an inode change, between other edits.
-use Rattle.std.proofs.Common.{◌≡◌, ◌≢◌, ℕ, List, Option, refl, sym, ◌∙◌, ap, subst}
+use Rattle.std.proofs.Common.{◌≡◌, ◌≢◌, ℕ, List, Option, sym, ◌∙◌, ap, subst}
 use Rattle.std.specs.Prelude.{All, fold}
 use Rattle.xn_model.specs.Types.{Types}
 use Rattle.xn_model.specs.Lives.{StoreState}
@@ -10,7 +10,7 @@ use Rattle.treefs_format.specs.declared.fields.Fields.{Fields}
 use Rattle.treefs_model.specs.Acts.{changes_act}
 use Rattle.treefs_model.specs.Changes.{moved_to}
 use Rattle.treefs_model.specs.Files.{Content, Inode, changed_at}
-use Rattle.treefs_model.specs.Reading.{block_at, files_of, inode_with, key_in}
+use Rattle.treefs_model.specs.Reading.{files_of, inode_with, key_in}
 use Rattle.treefs_lookup.specs.Readable.{readable}
 use Rattle.treefs_edits.specs.Written.{written}
 use Rattle.treefs_values.specs.Kinds.{kinds}

@@ -1,6 +1,6 @@
 -- What is found of inodes and of names that an edit leaves as they are.
 use mathlib.Core.Path.{fun_ext}
-use Rattle.std.proofs.Common.{◌≡◌, ◌≢◌, ℕ, ◌-◌, Bool, List, Result, Ok, Err, refl, sym, ◌∙◌, ap, subst, if◌then◌else◌}
+use Rattle.std.proofs.Common.{◌≡◌, ◌≢◌, ℕ, ◌-◌, List, Result, Ok, Err, refl, sym, ◌∙◌, ap, subst, if◌then◌else◌}
 use Rattle.std.specs.Prelude.{option_map, ◌==◌}
 use Rattle.std.specs.Option.{ok_or}
 use Rattle.treefs_format.specs.Buckets.{live_record}
@@ -8,10 +8,10 @@ use Rattle.treefs_format.specs.Candidates.{candidates, name_hash}
 use Rattle.treefs_format.specs.Inodes.{content_of}
 use Rattle.treefs_format.specs.Names.{is_name}
 use Rattle.treefs_model.specs.Files.{and_then}
-use Rattle.treefs_model.specs.Reading.{bucket_of, inode_block, key_in}
+use Rattle.treefs_model.specs.Reading.{key_in}
 use Rattle.treefs_model.specs.declared.fault.Fault.{Fault}
 use Rattle.treefs_model.specs.declared.fault.Fault.TheVariants.{BadName, NoEntry}
-use Rattle.treefs_lookup.specs.Buckets.{bucket_block, bucket_start}
+use Rattle.treefs_lookup.specs.Buckets.{bucket_start}
 use Rattle.treefs_lookup.specs.Inodes.{directory_found, found_block, found_in, if_directory, inode_found}
 use Rattle.treefs_lookup.specs.Names.{entry_found, first_some, named_in, slot_in, slot_named, slot_of}
 use Rattle.treefs_lookup.specs.declared.inodes.Found.{Found}

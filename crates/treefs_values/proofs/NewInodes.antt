@@ -1,7 +1,7 @@
 -- A new inode has no tree, and says its fields and the beginning of its content.
 use mathlib.Core.Path.{fun_ext}
-use Rattle.std.proofs.Common.{◌≡◌, ◌≢◌, ◌⊎◌, ℕ, suc, ◌+◌, ◌*◌, ◌-◌, ◌/◌, ◌%◌, ◌<◌, ◌≤◌, Bool, true, false, ◌&&◌, List, [], ◌∷◌, ◌++◌, length, get_or, Option, None, Some, refl, sym, ◌∙◌, ap, inl, inr, arith, subst, lt-ltb, if◌then◌else◌}
-use Rattle.std.specs.Prelude.{All, Contains, IsTrue, find, map, option_map, replicate, slice_index, ◌==◌}
+use Rattle.std.proofs.Common.{◌≡◌, ◌≢◌, ◌⊎◌, ℕ, suc, ◌+◌, ◌*◌, ◌-◌, ◌/◌, ◌%◌, ◌<◌, ◌≤◌, ◌&&◌, List, [], ◌∷◌, ◌++◌, length, get_or, None, Some, refl, sym, ◌∙◌, ap, inl, inr, arith, subst, lt-ltb, if◌then◌else◌}
+use Rattle.std.specs.Prelude.{All, IsTrue, find, map, option_map, replicate, slice_index, ◌==◌}
 use Rattle.std.specs.Int.{bytes_low_first, cast_unsigned, to_le_bytes, w16, w32, w64}
 use Rattle.std.specs.List.{range_with_len}
 use Rattle.std.proofs.lemmas.Bool.{cases_eq, false≢true, ne_eqb}
@@ -13,17 +13,17 @@ use Rattle.xn_model.specs.BareDisks.{zeros}
 use Rattle.xn_model.specs.Root.{word_at}
 use Rattle.treefs_format.proofs.ForCallers.{no_length, words_get}
 use Rattle.treefs_format.proofs.Made.{blank_drop, zeros_none}
-use Rattle.treefs_format.specs.Buckets.{has_name as record_has_name, is_whole, live_record}
+use Rattle.treefs_format.specs.Buckets.{has_name as record_has_name, is_whole}
 use Rattle.treefs_format.specs.Candidates.{candidates, name_hash}
 use Rattle.treefs_format.specs.Fields.{AreInRange, field_bytes, fields_of, time_bytes}
 use Rattle.treefs_format.specs.Inodes.{content_of, inode_bytes, kind_of, pointers_of}
 use Rattle.treefs_format.specs.Nodes.{children_of, node_bytes}
-use Rattle.treefs_format.specs.Paths.{leaf_count, steps}
+use Rattle.treefs_format.specs.Paths.{steps}
 use Rattle.treefs_format.specs.Records.{end_of, entries_of, is_live, placed}
 use Rattle.treefs_format.specs.declared.fields.Fields.{Fields}
 use Rattle.treefs_format.specs.declared.kind.Kind.{Kind}
 use Rattle.treefs_format.specs.declared.kind.Kind.TheVariants as kind
-use Rattle.treefs_model.specs.Files.{Content, Directory, File, SymbolicLink}
+use Rattle.treefs_model.specs.Files.{Directory, File, SymbolicLink}
 use Rattle.treefs_model.specs.Reading.{block_at, bucket_of, byte_of, bytes_of, content_at, inode_of, inode_with, leaf_block, leaf_byte, number_among, number_of, pointed}
 use Rattle.treefs_model.specs.Trees.{has_name, names_once}
 use Rattle.treefs_values.specs.Attached.{IsFreeInode, new_content}

@@ -1,5 +1,5 @@
 -- A new inode gets its number, by an edit of the table.
-use Rattle.std.proofs.Common.{◌≡◌, ◌≢◌, ℕ, ◌+◌, ◌-◌, ◌<◌, ◌≤◌, ◌^◌, List, [], ◌∷◌, length, Option, None, Some, refl, sym, ◌∙◌, ap, arith, subst}
+use Rattle.std.proofs.Common.{◌≡◌, ◌≢◌, ℕ, ◌-◌, ◌<◌, ◌≤◌, List, [], ◌∷◌, length, Option, None, Some, sym, ◌∙◌, ap, subst}
 use Rattle.std.specs.Prelude.{IsTrue}
 use Rattle.xn_model.specs.Types.{Types}
 use Rattle.xn_model.specs.Lives.{StoreState}
@@ -20,7 +20,7 @@ use Rattle.treefs_values.specs.Attached.{IsFreeInode, IsPointerSet, new_content}
 use Rattle.treefs_values.specs.Kinds.{kinds}
 use Rattle.treefs_values.specs.KnownLayout.{IsLayout}
 use Rattle.treefs_values.specs.Volumes.{IsVolume, IsWholeBlock}
-use Rattle.treefs_values.specs.Ways.{ArePointersApart, IsWay, block_numbered}
+use Rattle.treefs_values.specs.Ways.{ArePointersApart, IsWay}
 use Rattle.treefs_values.proofs.Attaching.{attached_inodes, files_attached, volume_attached, was_free}
 use Rattle.treefs_values.proofs.NewInodes.{new_free, new_value, way_none}
 use Rattle.treefs_values.proofs.Pending.{IsNew, IsOther, New, at_other, new_attached, way_pointer}

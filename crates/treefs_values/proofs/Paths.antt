@@ -1,14 +1,13 @@
 -- Paths of which the last pointers are missing.
-use Rattle.std.proofs.Common.{◌≡◌, ◌≢◌, ◌⊎◌, ℕ, zero, suc, ◌+◌, ◌-◌, ◌<◌, ◌≤◌, Bool, List, [], ◌∷◌, ◌++◌, None, length, get_or, take, drop, refl, sym, ◌∙◌, ap, inl, inr, arith, subst, if◌then◌else◌, append_assoc}
-use Rattle.std.specs.Prelude.{reverse, ◌==◌}
+use Rattle.std.proofs.Common.{◌≡◌, ◌≢◌, ℕ, zero, suc, ◌+◌, ◌<◌, ◌≤◌, List, [], ◌∷◌, ◌++◌, None, length, get_or, take, drop, refl, sym, ◌∙◌, ap, inl, inr, arith, subst, if◌then◌else◌, append_assoc}
+use Rattle.std.specs.Prelude.{reverse}
 use Rattle.std.proofs.lemmas.Bool.{cases_eq, eq-eqb, ne_eqb}
-use Rattle.std.proofs.lemmas.List.{append-nil, reverse-append, reverse-reverse, take-append-drop, take_more}
+use Rattle.std.proofs.lemmas.List.{reverse-append, reverse-reverse, take_more}
 use Rattle.treefs_model.specs.Reading.{block_at, pointed}
 use Rattle.treefs_lookup.specs.Walks.{further, reach, reached as reach_to, stepped}
 use Rattle.treefs_lookup.specs.declared.paths.Reach.{Reach}
 use Rattle.treefs_edits.specs.Missing.{child_before, first_byte, node_acts, node_starts, path_acts, path_starts, type_before}
-use Rattle.treefs_model.specs.Acts.{Act, attach_act, wait_act}
-use Rattle.treefs_edits.specs.declared.start.Start.{Start}
+use Rattle.treefs_model.specs.Acts.{attach_act, wait_act}
 use Rattle.treefs_format.specs.Nodes.{node_bytes}
 use Rattle.treefs_values.specs.Ways.{IsWay}
 use Rattle.treefs_values.proofs.Chains.{Link, chain_acts, chain_starts, reached}

@@ -1,16 +1,16 @@
 -- Blocks that were begun and that nothing points to yet.
-use Rattle.std.proofs.Common.{◌≡◌, ◌≢◌, ◌⊎◌, ℕ, suc, ◌+◌, ◌<◌, ◌≤◌, ◌%◌, ◌^◌, Bool, true, false, ◌&&◌, ◌||◌, List, [], ◌∷◌, ◌++◌, ◌-◌, get_or, refl, sym, ◌∙◌, ap, inl, inr, arith, subst, if◌then◌else◌}
+use Rattle.std.proofs.Common.{◌≡◌, ◌≢◌, ◌⊎◌, ℕ, suc, ◌<◌, ◌^◌, Bool, true, false, ◌||◌, List, [], ◌∷◌, ◌++◌, ◌-◌, get_or, refl, sym, ◌∙◌, ap, inl, inr, if◌then◌else◌}
 use Rattle.std.specs.Prelude.{⊤, All, IsTrue, nat_lt, ◌==◌}
 use Rattle.std.proofs.lemmas.Bool.{cases_eq}
 use Rattle.std.proofs.lemmas.List.Elements.{All-cons, All-head, All-nil, All-tail}
 use Rattle.xn_model.specs.Root.{word_at}
 use Rattle.treefs_format.specs.Paths.{leaf_count, steps}
-use Rattle.treefs_model.specs.Reading.{block_at, inode_block, leaf_block, pointed}
+use Rattle.treefs_model.specs.Reading.{block_at, leaf_block, pointed}
 use Rattle.treefs_model.specs.Trees.{has_pointer}
 use Rattle.treefs_values.specs.Attached.{IsPointerSet}
 use Rattle.treefs_values.specs.Parts.{IsChangedAt}
 use Rattle.treefs_values.specs.Volumes.{IsVolume}
-use Rattle.treefs_values.specs.Ways.{IsTyped, IsWay, SamePointers, block_numbered}
+use Rattle.treefs_values.specs.Ways.{IsWay, SamePointers, block_numbered}
 use Rattle.treefs_values.proofs.Elsewhere.{inode_numbered}
 use Rattle.treefs_values.proofs.Ways.{inode_pointer, node_pointer, steps_way}
 

@@ -1,5 +1,5 @@
 -- Where the record of a new name goes, and what is made of the volume once it is made there.
-use Rattle.std.proofs.Common.{◌≡◌, ◌≢◌, ◌⊎◌, ℕ, ◌+◌, ◌-◌, ◌<◌, ◌≤◌, ◌^◌, Bool, true, false, List, [], ◌∷◌, length, Option, None, Some, Ok, refl, sym, ◌∙◌, ap, inl, inr, arith, subst, if◌then◌else◌}
+use Rattle.std.proofs.Common.{◌≡◌, ◌≢◌, ◌⊎◌, ℕ, ◌+◌, ◌-◌, ◌<◌, ◌≤◌, ◌^◌, Bool, true, false, List, [], length, Option, None, Some, refl, sym, ◌∙◌, ap, inl, inr, arith, subst, if◌then◌else◌}
 use Rattle.std.specs.Prelude.{All, Contains, IsTrue, ◌==◌}
 use Rattle.std.proofs.lemmas.Bool.{cases_eq, eq-eqb, ne_eqb, true≢false}
 use Rattle.xn_model.specs.BareDisks.{zeros}
@@ -13,7 +13,6 @@ use Rattle.treefs_format.specs.Inodes.{content_of, kind_of}
 use Rattle.treefs_format.specs.Names.{is_name}
 use Rattle.treefs_format.specs.Paths.{leaf_count, steps}
 use Rattle.treefs_format.specs.Records.{Entry, Record, end_of, entries_of, records_of, total_length}
-use Rattle.treefs_format.specs.Templates.{IsTree}
 use Rattle.treefs_format.specs.declared.kind.Kind.TheVariants as kind
 use Rattle.treefs_format.proofs.Made.{length-rewritten, live_within, zeros_none}
 use Rattle.treefs_model.specs.Acts.{Act, one_patch, patch_act, record_act}

@@ -1,23 +1,23 @@
 -- A bucket of a directory is written anew, without its dead records.
 use mathlib.Core.Path.{fun_ext}
-use Rattle.std.proofs.Common.{◌≡◌, ◌≢◌, ℕ, ◌+◌, ◌<◌, ◌≤◌, Bool, true, false, cond, not, ◌&&◌, ◌||◌, List, [], ◌∷◌, ◌++◌, length, Option, None, Some, refl, sym, ◌∙◌, ap, inl, inr, arith, subst, if◌then◌else◌}
-use Rattle.std.specs.Prelude.{All, Contains, IsTrue, bytes_eq, filter, replicate, ◌==◌}
-use Rattle.std.proofs.lemmas.Bool.{and_from, and_parts, cases_eq, eqb-true, eq-eqb, not-true, or_cases, or_left, or_right, true≢false}
+use Rattle.std.proofs.Common.{◌≡◌, ◌≢◌, ℕ, ◌+◌, ◌<◌, ◌≤◌, Bool, true, false, cond, not, ◌&&◌, ◌||◌, List, [], ◌∷◌, ◌++◌, length, None, Some, refl, sym, ◌∙◌, ap, inl, inr, arith, subst, if◌then◌else◌}
+use Rattle.std.specs.Prelude.{All, Contains, IsTrue, bytes_eq, filter}
+use Rattle.std.proofs.lemmas.Bool.{and_from, and_parts, cases_eq, not-true, or_cases, or_left, or_right, true≢false}
 use Rattle.std.proofs.lemmas.List.{drop_at, take_at}
-use Rattle.std.proofs.lemmas.List.Elements.{All-append, All-drop, All-nil, All-replicate, All-take}
+use Rattle.std.proofs.lemmas.List.Elements.{All-append, All-drop, All-replicate, All-take}
 use Rattle.xn_model.proofs.ForCallers.{Contains-head, Contains-tail}
 use Rattle.treefs_format.specs.Buckets.{is_whole, live_entries, rewritten}
 use Rattle.treefs_format.specs.Candidates.{candidates, name_hash}
 use Rattle.treefs_format.specs.Fields.{fields_of}
 use Rattle.treefs_format.specs.Inodes.{kind_of}
 use Rattle.treefs_format.specs.Paths.{leaf_count}
-use Rattle.treefs_format.specs.Records.{Entry, end_of, entries_of, entry_bytes, is_live, joined, total_length}
+use Rattle.treefs_format.specs.Records.{Entry, end_of, entries_of, entry_bytes, is_live, joined}
 use Rattle.treefs_format.specs.declared.kind.Kind.TheVariants as kind
 use Rattle.treefs_format.proofs.Made.{bucket_of as bucket_parts, length-rewritten, rewritten_read, rewritten_whole}
 use Rattle.treefs_format.proofs.Parsed.{IsByte}
 use Rattle.treefs_model.specs.Acts.{Act, one_patch, patch_act}
 use Rattle.treefs_model.specs.Files.{Directory}
-use Rattle.treefs_model.specs.Reading.{bucket_of, files_of, inode_of, inode_with, key_in, number_of}
+use Rattle.treefs_model.specs.Reading.{bucket_of, files_of, inode_with, key_in, number_of}
 use Rattle.treefs_model.specs.Trees.{has_name, names_once}
 use Rattle.treefs_lookup.specs.Buckets.{bucket_block, bucket_start}
 use Rattle.treefs_edits.specs.Kinds.{rewritten_act}

@@ -1,7 +1,7 @@
 -- Inodes that an edit leaves as they are, and directories that have the same records then.
 use Rattle.std.proofs.Common.{◌≡◌, ◌≢◌, ℕ, List, refl, sym, ◌∙◌, ap, subst}
 use Rattle.treefs_format.specs.Fields.{fields_of}
-use Rattle.treefs_model.specs.Reading.{block_at, key_in, leaf_block}
+use Rattle.treefs_model.specs.Reading.{block_at, key_in}
 use Rattle.treefs_values.specs.Names.{bucket_entries}
 use Rattle.treefs_values.specs.Ways.{IsWay, block_numbered}
 use Rattle.treefs_values.proofs.Alike.{IsAlike}

@@ -1,6 +1,6 @@
 -- The edits by which a path is made: of the table to a new inode, and of a directory to a new leaf.
-use Rattle.std.proofs.Common.{◌≡◌, ◌≢◌, ◌⊎◌, ℕ, zero, suc, ◌+◌, ◌-◌, ◌<◌, ◌≤◌, ◌%◌, ◌^◌, Bool, List, [], ◌∷◌, ◌++◌, length, get_or, take, drop, Option, None, Some, Ok, refl, sym, ◌∙◌, ap, inl, inr, arith, subst, if◌then◌else◌}
-use Rattle.std.specs.Prelude.{⊤, All, map, nat_lt, reverse, slice_index, ◌==◌}
+use Rattle.std.proofs.Common.{◌≡◌, ◌≢◌, ◌⊎◌, ℕ, zero, suc, ◌+◌, ◌-◌, ◌<◌, ◌≤◌, ◌%◌, List, [], ◌∷◌, ◌++◌, length, get_or, take, drop, None, Some, Ok, refl, sym, ◌∙◌, ap, inl, inr, arith, subst, if◌then◌else◌}
+use Rattle.std.specs.Prelude.{All, reverse, slice_index}
 use Rattle.std.proofs.lemmas.Bool.{lt-ltb}
 use Rattle.std.proofs.lemmas.List.{drop_more, get_or_at, length-reverse, length-take-le, reverse-append, take-append-drop, take_at}
 use Rattle.xn_model.specs.Types.{Types}
@@ -23,9 +23,9 @@ use Rattle.treefs_values.specs.Attached.{new_content}
 use Rattle.treefs_values.specs.Kinds.{kinds}
 use Rattle.treefs_values.specs.KnownLayout.{IsLayout}
 use Rattle.treefs_values.specs.Ways.{IsWay, block_numbered}
-use Rattle.treefs_values.proofs.Chains.{IsChain, IsChained, IsNext, Link, blocks_in, chain_acts, chain_starts, chained, last_bytes, reached, way_stands}
+use Rattle.treefs_values.proofs.Chains.{IsChain, IsNext, blocks_in, chain_starts, chained, last_bytes, reached, way_stands}
 use Rattle.treefs_values.proofs.Numbering.{numbered_files, numbered_here, numbered_inodes, numbered_keeps, numbered_was}
-use Rattle.treefs_values.proofs.Paths.{IsReached, missing_first, node_acts_are, node_links, node_reached, node_starts_are, onto, onto_is, onto_reverse, path_acts_are, path_links, path_reached, path_starts_are, reached_so, way_first}
+use Rattle.treefs_values.proofs.Paths.{IsReached, missing_first, node_acts_are, node_links, node_reached, node_starts_are, onto, onto_reverse, path_acts_are, path_links, path_reached, path_starts_are, reached_so, way_first}
 use Rattle.treefs_values.proofs.Pending.{AreNew, IsNew, IsOther, New}
 use Rattle.treefs_values.proofs.Standing.{KeepsInodes, KeepsNames, inodes_then}
 use Rattle.treefs_values.proofs.Walks.{AreOf, IsAt, edit_is}
