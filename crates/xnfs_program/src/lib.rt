@@ -7,7 +7,7 @@
 mod changing;
 mod clock;
 mod fault;
-mod line;
+mod lines;
 mod looking;
 mod shell;
 mod status;
@@ -15,4 +15,4 @@ mod telling;
 mod words;
 
 pub use fault::LineFault;
-pub use line::{Streams, line};
+pub use lines::{Streams, line};

@@ -2,7 +2,7 @@
 
 use crate::changing::Place;
 use crate::fault::LineFault;
-use crate::line::Streams;
+use crate::lines::Streams;
 use crate::status::{DONE, FAILED, USAGE};
 use crate::telling::{tell_all, told_unknown};
 use crate::words::run_word;
