@@ -333,14 +333,14 @@ module _ (T : Types) (state state' : StoreState) (volume : Volume) (n d : ℕ) (
   seen_found : found (files_in state volume) n ≡ Ok (seen_inode touched n value)
   seen_found = found_seen touched files n value value_found
 
-  lead : led_to n ≡ Some n
-  lead = ap (λ t. if t then None else Some n) (ne_eqb n 0 is.number)
-
   changed_so : (x : Inode) → files n ≡ Some x → seen_inode left n (change x) ≡ more_links memory.clock (seen_inode touched n x)
   changed_so x there =
       let same : value ≡ x = same_done value x (sym value_found ∙ ap (λ o. ok_or o NoEntry) there) in
       subst (λ x. seen_inode left n (change x) ≡ more_links memory.clock (seen_inode touched n x)) same
       (more_seen touched memory.clock n kept.session.once value links (times_of p.inode.fields) refl refl)
+
+  lead : led_to n ≡ Some n
+  lead = ap (λ t. if t then None else Some n) (ne_eqb n 0 is.number)
 
   module _ (word : ℕ) (done : IsDone state') where
     abbrev later : Volume

@@ -45,11 +45,11 @@ module _ (T : Types) (fs node inode top : ℕ) (few : fs < 32) (tree : IsTree T 
   abbrev News : StoreState → List New → Type 0
   News s xs = AreNew node inode (kinds s fs) (readable s fs) top xs
 
-  abbrev Of : List Start → List New → Type 0
-  Of = AreOf T fs node inode top few tree
-
   abbrev Dir : StoreState → Type 0
   Dir s = IsDirectoryAt (readable s fs) top d c key
+
+  abbrev Of : List Start → List New → Type 0
+  Of = AreOf T fs node inode top few tree
 
   -- A name comes to lead to a number
 

@@ -70,12 +70,12 @@ module _ (state : StoreState) (volume : Volume) (n at : ℕ) (old : List ℕ) wh
   pub found_by : (r : Result Found Fault) → inode_found content top n ≡ r → found (files_in state volume) n ≡ told_by r
   found_by r e = sym (told state volume n) ∙ ap told_by e
 
+  abbrev said_of : Result (List ℕ) Fault → Result (List ℕ) Fault
+  said_of r = and_then r (λ bytes. Ok (take most (drop at bytes)))
+
   -- what a read answers of a file, and what stands in its buffer
   abbrev answered : Result Found Fault → Result (List ℕ) Fault
   answered file = and_then (read_count file at most) (λ count. Ok (take count (read_into content file at old)))
-
-  abbrev said_of : Result (List ℕ) Fault → Result (List ℕ) Fault
-  said_of r = and_then r (λ bytes. Ok (take most (drop at bytes)))
 
   module _ (x : Found) (is : inode_found content top n ≡ Ok x) where
     same_fields : fields_of (content x.block) ≡ x.fields

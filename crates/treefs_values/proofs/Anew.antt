@@ -88,18 +88,18 @@ module _ (node inode top : ℕ) (type : ℕ → ℕ) (old : ℕ → List ℕ) (v
         | inr there' ↦ ap (λ t. if t then [] else old (leaf_block old c (k - 1))) (ne_eqb (leaf_block old c (k - 1)) 0 there')
       ]
 
-  pub made_as_set : made_so ≡ set_so
-  made_as_set = fun_ext (λ b. elim (cases_eq b (bucket_block old c k)) [
-    | inl is ↦
-        written_here (record_act (bucket_block old c k) (bucket_start k + r.offset) entry behind) old b is
-        ∙ (ap (λ x. put (old x) (bucket_start k + r.offset) (entry_bytes entry)) is ∙ (same_block ∙ (ap (λ x. put (old x) (bucket_start k + r.offset) (to_le_bytes w32 now)) (sym is)
-        ∙ sym (written_here (number_act (bucket_block old c k) (bucket_start k + r.offset) now behind) old b is))))
-    | inr ne ↦
-        written_other (record_act (bucket_block old c k) (bucket_start k + r.offset) entry behind) old b ne
-        ∙ sym (written_other (number_act (bucket_block old c k) (bucket_start k + r.offset) now behind) old b ne)
-  ])
-
   module _ (short : now < 2 ^ 32) (directory : kind_of (fields_of (old c)).mode ≡ Some kind.Directory) where
+    made_as_set : made_so ≡ set_so
+    made_as_set = fun_ext (λ b. elim (cases_eq b (bucket_block old c k)) [
+      | inl is ↦
+          written_here (record_act (bucket_block old c k) (bucket_start k + r.offset) entry behind) old b is
+          ∙ (ap (λ x. put (old x) (bucket_start k + r.offset) (entry_bytes entry)) is ∙ (same_block ∙ (ap (λ x. put (old x) (bucket_start k + r.offset) (to_le_bytes w32 now)) (sym is)
+          ∙ sym (written_here (number_act (bucket_block old c k) (bucket_start k + r.offset) now behind) old b is))))
+      | inr ne ↦
+          written_other (record_act (bucket_block old c k) (bucket_start k + r.offset) entry behind) old b ne
+          ∙ sym (written_other (number_act (bucket_block old c k) (bucket_start k + r.offset) now behind) old b ne)
+    ])
+
     pub volume_anew : IsVolume node inode type made_so top
     volume_anew = subst (λ m. IsVolume node inode type m top) (sym made_as_set) (volume_set node inode top type old v f n number there k few r has now short behind directory)
 
