@@ -1,15 +1,15 @@
 // Files in a disk image: made, listed, brought in and out, each line on the disk when it ends.
-// May touch: memory, threads, files, streams.
+// May touch: memory, threads, files, streams, clock, random bytes.
 #![tactic(auto)]
 
 use std::env::{Env, FillError};
 use std::fs::File;
-use std::io::{BufReader, BufWriter, ErrorKind, Write};
+use std::io::{BufReader, BufWriter, ErrorKind, IsTerminal, Write};
 use std::os::fd::AsRawFd;
 use std::process::ExitCode;
 use std::thread::Threads;
 use std::{env, io, str};
-use xnfs_line::line;
+use xnfs_line::{Terminal, line};
 
 /// The standard streams have the numbers 0, 1 and 2.
 const STREAMS: i32 = 3;
@@ -47,6 +47,15 @@ fn word_without_text(rt: &HostRuntime) -> io::Result<usize> {
     Ok(0)
 }
 
+/// Whether lines are written at a terminal, and answers read there.
+fn terminal_of(rt: &HostRuntime) -> Terminal {
+    if rt.stdin().is_terminal() && rt.stdout().is_terminal() {
+        Terminal::Prompted
+    } else {
+        Terminal::Silent
+    }
+}
+
 /// Does what the command line asks for, and answers the program's status. Threads are started by the second handle alone.
 fn run(rt: &HostRuntime, threads: &(impl Threads + Sync)) -> io::Result<u8> {
     let alloc = rt.alloc();
@@ -64,6 +73,7 @@ fn run(rt: &HostRuntime, threads: &(impl Threads + Sync)) -> io::Result<u8> {
     let mut input = BufReader::new(alloc, rt.stdin())?;
     let status = line(
         rt,
+        (rt, terminal_of(rt)),
         threads,
         alloc,
         words.as_slice(),

@@ -1,30 +1,20 @@
-//! Lines of `xnfs`: what each word does to the files of a disk, and what it prints.
+//! Lines of `xnfs`: what each word does to the files of a disk, what is told of it, and the status of the program.
 //!
-//! Of these functions it is proved that they are safe and end. That names stay good in every image that a crash may leave is proved of
-//! each session (`xnfs_session`), whatever is done here. The rest is tested.
-//! May touch: memory, threads, files, streams.
+//! Of these functions it is proved that they are safe and end. What a call of a session does to a volume of trees is proved where the call stands. The rest is
+//! tested.
+//! May touch: memory, threads, files, streams, clock, random bytes.
 #![tactic(auto)]
 
-mod carrying;
 mod changing;
-mod checking;
 mod disks;
 mod fault;
-mod finding;
-mod getting;
-mod graphing;
 mod lines;
 mod looking;
-mod opened;
-mod progress;
-mod putting;
 mod shell;
-mod showing;
-mod sources;
-mod survey;
-mod walking;
+mod status;
+mod system;
+mod telling;
+mod words;
 
-pub use fault::Fault;
 pub use lines::line;
-pub use opened::Opened;
-pub use shell::{Ended, Shell, shell_line};
+pub use system::Terminal;

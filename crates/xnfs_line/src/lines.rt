@@ -1,241 +1,240 @@
 // A line of the program.
 
-use crate::carrying::{Kind, begin, end};
-use crate::changing::{copy, make_folder, make_folders, remove, remove_folder, rename};
-use crate::checking::{check, repair};
-use crate::disks::{format, open, open_for_tests};
-use crate::fault::Fault;
-use crate::getting::get;
-use crate::graphing::graph;
-use crate::looking::{cat, list, stat, tree, usage};
-use crate::opened::Opened;
-use crate::putting::flush;
+use crate::changing::Sources;
+use crate::fault::LineFault;
+use crate::looking::{Looked, is_looking, look};
 use crate::shell::{Shell, run_shell};
-use crate::showing::shown;
-use crate::sources::{Given, put, read_given};
+use crate::status::{DONE, FAILED, USAGE};
+use crate::system::{Terminal, random_key, time_of};
+use crate::telling::{tell, tell_unknown, tell_usage};
+use crate::words::{look_at, run_word};
+use edit_list::Fs;
+use file_disk::SystemFault;
+use first_volumes::FirstVolume;
+use flush_store::FlushStore;
+use host_trees::{Host, RealHost};
 use std::alloc::Global;
 use std::fs::{File, Files};
-use std::io::{BufRead, Read, Write};
+use std::io::{BufRead, Write};
+use std::random::RandomSource;
 use std::thread::Threads;
-use xnfs_session::{FlushStore, Fs, Stop};
-use xnfs_words::{Request, Word, commands_told, read, unknown_command};
+use std::time::Clock;
+use tree_disks::{VolumeKind, find_volume, format, open, open_for_tests};
+use tree_lines::{Fault, Opened, TOP, Told, reason_of};
+use treefs::BlockTypes;
+use treefs_session::Session;
+use xnfs_session::Stop;
+use xnfs_words::{Request, Word, prepared, read, unknown_command};
 
-/// The status of a line that was done.
-pub const DONE: u8 = 0;
-
-/// That of one that could not be done, or not whole.
-pub const FAILED: u8 = 1;
-
-/// That of one that can't be read.
-pub const USAGE: u8 = 2;
-
-/// Does what a word that only looks asks for.
-fn look<S: FlushStore + Drop>(
-    volume: &mut Opened<S>,
-    alloc: Global,
-    word: Word,
-    out: &mut impl Write,
-) -> Result<(), Fault> {
-    match word {
-        Word::List { path, is_long } => list(volume, alloc, path, is_long, out),
-        Word::Tree { path } => tree(volume, alloc, path, out),
-        Word::Cat { path } => cat(volume, alloc, path, out),
-        Word::Stat { path } => stat(volume, alloc, path, out),
-        Word::Usage => usage(volume, out),
-        Word::Graph => graph(volume, alloc, out),
-        _ => Ok(()),
-    }
-}
-
-/// Does what a word that changes names asks for.
-fn change<R: Files<File = File> + AllocGlobal + Clone + Drop, S: FlushStore + Drop>(
-    rt: &R,
-    volume: &mut Opened<S>,
-    alloc: Global,
-    word: Word,
-    given: Given,
-) -> Result<(), Fault> {
-    match word {
-        Word::Put { source, path } => put(rt, volume, alloc, (source, path), given),
-        Word::MakeFolder {
-            path,
-            with_parents: true,
-        } => {
-            let _ = make_folders(volume, alloc, path)?;
-            Ok(())
-        }
-        Word::MakeFolder { path, .. } => make_folder(volume, alloc, path),
-        Word::Remove { path, is_recursive } => remove(volume, alloc, path, is_recursive),
-        Word::RemoveFolder { path } => remove_folder(volume, alloc, path),
-        Word::Move { path, to } => rename(volume, alloc, path, to),
-        Word::Copy { path, to } => copy(volume, alloc, path, to),
-        _ => Ok(()),
-    }
-}
-
-/// Writes what is pending where what is done is to be on the disk with its line. After a flush that failed there is no further one, so that its
-/// fault is the one that is told.
-fn settle<S: FlushStore + Drop>(
-    volume: &mut Opened<S>,
-    alloc: Global,
-    is_lazy: bool,
-    changed: Result<(), Fault>,
-) -> Result<(), Fault> {
-    if is_lazy || volume.is_broken {
-        return changed;
-    }
-    flush(volume, alloc)?;
-    changed
-}
-
-/// Does what a word that changes a volume asks for, where that is good. What may not share a flush with it is written first.
-fn change_good<R: Files<File = File> + AllocGlobal + Clone + Drop, S: FlushStore + Drop>(
-    rt: &R,
-    volume: &mut Opened<S>,
-    alloc: Global,
-    (word, is_lazy): (Word, bool),
-    given: Given,
-) -> Result<(), Fault> {
-    if !volume.survey.is_good() {
-        return Err(Fault::NotGood);
-    }
-    let kind = begin(volume, alloc, &word)?;
-    let changed = change(rt, volume, alloc, word, given);
-    let kind = if changed.is_ok() { kind } else { Kind::Alone };
-    end(volume, alloc, &word, kind);
-    settle(volume, alloc, is_lazy, changed)
-}
-
-/// Does what a word asks for. What it changed is on the disk then, but where a shell is lazy.
-pub fn run_word<R: Files<File = File> + AllocGlobal + Clone + Drop, S: FlushStore + Drop>(
-    rt: &R,
-    volume: &mut Opened<S>,
-    alloc: Global,
-    (word, is_lazy): (Word, bool),
-    given: Given,
-    out: &mut impl Write,
-) -> Result<(), Fault> {
-    match word {
-        Word::Put { .. }
-        | Word::MakeFolder { .. }
-        | Word::Remove { .. }
-        | Word::RemoveFolder { .. }
-        | Word::Move { .. }
-        | Word::Copy { .. } => change_good(rt, volume, alloc, (word, is_lazy), given),
-        Word::Get { path, target } => get(rt, volume, alloc, path, target, out),
-        Word::Check { is_repairing: true } => repair(volume, alloc, out),
-        Word::Check { .. } => check(volume, alloc, out),
-        Word::Sync => flush(volume, alloc),
-        _ => look(volume, alloc, word, out),
-    }
-}
-
-/// Whether a word changes no disk, so that one is opened for it without rights to write.
-fn is_looking(word: &Word) -> bool {
-    matches!(
-        word,
-        Word::List { .. }
-            | Word::Tree { .. }
-            | Word::Cat { .. }
-            | Word::Stat { .. }
-            | Word::Usage
-            | Word::Get { .. }
-            | Word::Graph
-            | Word::Check {
-                is_repairing: false
-            }
-    )
-}
-
-/// The file system of a number.
-fn file_system(number: u8) -> Result<Fs, Fault> {
-    match Fs::new(number) {
-        Some(fs) => Ok(fs),
-        None => Err(Fault::NoFileSystem(number)),
-    }
-}
-
-/// What a line asks for on a disk: its name, the word, and what that brings in.
+/// What a line asks for on a disk: its name, the file system, the word, and when.
 #[derive(Drop)]
 struct Asked<'a> {
     image: &'a str,
+    fs: Fs,
     word: Word<'a>,
-    given: Given,
+    time: i64,
+    terminal: Terminal,
 }
 
-/// Does what a line asks for on an open disk, and answers its status.
-fn run_disk<R: Files<File = File> + AllocGlobal + Clone + Drop, S: FlushStore + Drop>(
-    rt: &R,
-    volume: &mut Opened<S>,
-    alloc: Global,
-    asked: Asked,
-    input: &mut impl BufRead,
-    out: &mut impl Write,
-    err: &mut impl Write,
-) -> Result<u8, Fault> {
-    let Asked { image, word, given } = asked;
-    if let Word::Shell { is_lazy } = word {
-        let shell = Shell { image, is_lazy };
-        return run_shell(rt, volume, alloc, shell, input, out, err);
+/// The file system of a number.
+fn file_system(number: u8) -> Result<Fs, LineFault> {
+    match Fs::new(number) {
+        Some(fs) => Ok(fs),
+        None => Err(LineFault::NoFileSystem(number)),
     }
-    let done = run_word(rt, volume, alloc, (word, false), given, out);
-    let told = volume.take_told(alloc);
-    for fault in told.iter() {
+}
+
+/// Tells what a line has left out, and answers its status.
+fn status_of(told: &[Fault], image: &str, out: &mut impl Write, err: &mut impl Write) -> u8 {
+    for fault in told {
         let _ = tell(out, err, image, fault);
     }
-    done?;
-    Ok(if told.is_empty() { DONE } else { FAILED })
+    if told.is_empty() { DONE } else { FAILED }
 }
 
-/// Does what a line asks for on a disk that makes so many writes of blocks at most, and syncs where it is told so, and answers its status.
-fn run_test<R: Files<File = File> + AllocGlobal + Clone + Drop>(
-    rt: &R,
-    threads: &(impl Threads + Sync),
+/// Does what a word that looks asks for on a volume of trees. Nothing is mended.
+fn look_at_trees<H: Host, S: FlushStore + Drop>(
+    host: &H,
     alloc: Global,
-    (asked, fs): (Asked, Fs),
-    (writes, is_synced): (Option<u32>, bool),
+    (store, types): (S, BlockTypes),
+    asked: &Asked,
+    out: &mut impl Write,
+    err: &mut impl Write,
+) -> Result<u8, LineFault> {
+    let session = match Session::open_to_look(alloc, store, asked.fs, types, asked.time) {
+        Ok(session) => session,
+        Err(fault) => return Err(Fault::Volume(reason_of(fault, 0)).into()),
+    };
+    let mut told = Told::nothing(alloc);
+    let done = look_at(host, &session, alloc, &mut told, (&asked.word, TOP), out);
+    let status = status_of(&told.take(alloc), asked.image, out, err);
+    done?;
+    Ok(status)
+}
+
+/// Does what a word that looks asks for on a volume of the first file system, and tells that it is one. The fault is `FirstVolume` for any other word.
+fn look_at_first<H: Host, S: FlushStore + Drop>(
+    host: &H,
+    alloc: Global,
+    store: S,
+    asked: &Asked,
+    out: &mut impl Write,
+    err: &mut impl Write,
+) -> Result<u8, LineFault> {
+    if !is_looking(&asked.word) || matches!(&asked.word, Word::Check { .. }) {
+        return Err(LineFault::FirstVolume);
+    }
+    let volume = match FirstVolume::open(alloc, store, asked.fs) {
+        Ok(volume) => volume,
+        Err(reason) => return Err(Fault::Volume(reason).into()),
+    };
+    let mut told = Told::nothing(alloc);
+    let looked = Looked {
+        folder: TOP,
+        has_attributes: false,
+    };
+    let done = look(host, &volume, alloc, &mut told, (&asked.word, looked), out);
+    let _ = tell(out, err, asked.image, &LineFault::FirstVolume);
+    let status = status_of(&told.take(alloc), asked.image, out, err);
+    done?;
+    Ok(status)
+}
+
+/// Does what the word of a line, or of each line of a shell, asks for on an open volume, and answers the status.
+fn run_opened<H: Host, S: FlushStore + Drop>(
+    (host, clock): (&H, &impl Clock),
+    opened: &mut Opened<S>,
+    alloc: Global,
+    asked: &Asked,
     input: &mut impl BufRead,
     out: &mut impl Write,
     err: &mut impl Write,
-) -> Result<u8, Fault> {
-    let stop = Stop::after(alloc, writes.map_or(u64::MAX, u64::from))?;
-    let mut volume = open_for_tests(rt, threads, alloc, asked.image, fs, (&stop, is_synced))?;
-    let done = run_disk(rt, &mut volume, alloc, asked, input, out, err);
+) -> Result<u8, LineFault> {
+    let image = asked.image;
+    if let Word::Shell { is_lazy } = &asked.word {
+        let shell = Shell {
+            image,
+            is_lazy: *is_lazy,
+            terminal: asked.terminal,
+        };
+        return run_shell((host, clock), opened, alloc, shell, input, out, err);
+    }
+    let sources = Sources {
+        disk: image,
+        has_lines: false,
+    };
+    let done = run_word(host, opened, alloc, (&asked.word, sources), input, out);
+    let status = status_of(&opened.told.take(alloc), image, out, err);
+    done?;
+    Ok(status)
+}
+
+/// Does what a word asks for on a volume of trees, mended where a crash left it, and closes that: all is on the disk then. After a failure of the disk nothing
+/// more is written, so that its fault is the one that is told.
+fn change_trees<H: Host, S: FlushStore + Drop>(
+    (host, clock): (&H, &impl Clock),
+    alloc: Global,
+    (store, types, system): (S, BlockTypes, SystemFault),
+    asked: &Asked,
+    input: &mut impl BufRead,
+    out: &mut impl Write,
+    err: &mut impl Write,
+) -> Result<u8, LineFault> {
+    let place = (asked.fs, types, asked.time);
+    let mut opened = Opened::open(alloc, store, place, Some(system))?;
+    let done = run_opened((host, clock), &mut opened, alloc, asked, input, out, err);
+    if opened.is_broken() {
+        return done;
+    }
+    match (done, opened.close(alloc)) {
+        (done, Ok(_store)) => done,
+        (Ok(_), Err(fault)) => Err(fault.into()),
+        (Err(first), Err(fault)) => {
+            let _ = tell(out, err, asked.image, &first);
+            Err(fault.into())
+        }
+    }
+}
+
+/// Does what a line asks for on the disk of a store, and answers its status.
+fn run_disk<H: Host, S: FlushStore + Drop>(
+    (host, clock): (&H, &impl Clock),
+    alloc: Global,
+    (store, system): (S, SystemFault),
+    asked: &Asked,
+    input: &mut impl BufRead,
+    out: &mut impl Write,
+    err: &mut impl Write,
+) -> Result<u8, LineFault> {
+    match find_volume(alloc, &store, asked.fs)? {
+        VolumeKind::Trees(types) if is_looking(&asked.word) => {
+            look_at_trees(host, alloc, (store, types), asked, out, err)
+        }
+        VolumeKind::Trees(types) => {
+            let volume = (store, types, system);
+            change_trees((host, clock), alloc, volume, asked, input, out, err)
+        }
+        VolumeKind::First => look_at_first(host, alloc, store, asked, out, err),
+    }
+}
+
+/// Opens the disk that a line names, does what it asks for, and answers its status.
+fn run_plain<R: Files<File = File> + AllocGlobal + Clock + Clone + Drop>(
+    rt: &R,
+    clock: &impl Clock,
+    threads: &(impl Threads + Sync),
+    alloc: Global,
+    asked: &Asked,
+    input: &mut impl BufRead,
+    out: &mut impl Write,
+    err: &mut impl Write,
+) -> Result<u8, LineFault> {
+    let host = RealHost::new(rt);
+    let disk = open(rt, threads, alloc, asked.image, is_looking(&asked.word))?;
+    run_disk((&host, clock), alloc, disk, asked, input, out, err)
+}
+
+/// The same on a disk that makes so many writes of blocks at most, and syncs where it is told so. The fault is `Stopped` where a further write was asked for.
+fn run_test<R: Files<File = File> + AllocGlobal + Clock + Clone + Drop>(
+    rt: &R,
+    clock: &impl Clock,
+    threads: &(impl Threads + Sync),
+    alloc: Global,
+    (asked, writes, is_synced): (&Asked, u64, bool),
+    input: &mut impl BufRead,
+    out: &mut impl Write,
+    err: &mut impl Write,
+) -> Result<u8, LineFault> {
+    let host = RealHost::new(rt);
+    let stop = Stop::after(alloc, writes)?;
+    let disk = open_for_tests(rt, threads, alloc, asked.image, (&stop, is_synced))?;
+    let done = run_disk((&host, clock), alloc, disk, asked, input, out, err);
     if stop.is_over() {
-        return Err(Fault::Stopped);
+        return Err(LineFault::Stopped);
     }
     done
 }
 
-/// What a word brings in, which is read before the disk is opened.
-fn given_of<R: Files<File = File>>(
-    rt: &R,
-    alloc: Global,
-    word: &Word,
-    input: &mut impl Read,
-) -> Result<Given, Fault> {
-    match word {
-        Word::Put { source, .. } => read_given(rt, alloc, source, input),
-        _ => Ok(Given::Nothing),
-    }
-}
-
 /// Does what a line asks for, and answers its status where that could be begun.
-fn run<R: Files<File = File> + AllocGlobal + Clone + Drop>(
+fn run<R: Files<File = File> + AllocGlobal + Clock + Clone + Drop>(
     rt: &R,
+    (clock, terminal): (&(impl Clock + RandomSource), Terminal),
     threads: &(impl Threads + Sync),
     alloc: Global,
     request: Request,
     input: &mut impl BufRead,
     out: &mut impl Write,
     err: &mut impl Write,
-) -> Result<u8, Fault> {
+) -> Result<u8, LineFault> {
     if image_of(&request).is_empty() {
-        return Err(Fault::Empty("IMAGE"));
+        return Err(LineFault::Empty("IMAGE"));
     }
+    let time = time_of(clock)?;
     let status = match request {
         Request::Format { image, blocks, fs } => {
-            format(rt, threads, alloc, image, blocks, file_system(fs)?)?;
+            let key = random_key(clock)?;
+            let size = (blocks, file_system(fs)?);
+            format(rt, threads, alloc, image, size, (&key, time))?;
             writeln!(out, "{image}: {blocks} blocks")?;
             DONE
         }
@@ -246,15 +245,19 @@ fn run<R: Files<File = File> + AllocGlobal + Clone + Drop>(
             is_synced,
             word,
         } => {
-            let fs = file_system(fs)?;
-            let given = given_of(rt, alloc, &word, input)?;
-            let asked = Asked { image, word, given };
+            let asked = Asked {
+                image,
+                fs: file_system(fs)?,
+                word,
+                time,
+                terminal,
+            };
             if stop.is_none() && is_synced {
-                let mut volume = open(rt, threads, alloc, image, (fs, is_looking(&word)))?;
-                run_disk(rt, &mut volume, alloc, asked, input, out, err)?
+                run_plain(rt, clock, threads, alloc, &asked, input, out, err)?
             } else {
-                let test = (stop, is_synced);
-                run_test(rt, threads, alloc, (asked, fs), test, input, out, err)?
+                let writes = stop.map_or(u64::MAX, u64::from);
+                let test = (&asked, writes, is_synced);
+                run_test(rt, clock, threads, alloc, test, input, out, err)?
             }
         }
     };
@@ -269,49 +272,13 @@ fn image_of<'a>(request: &Request<'a>) -> &'a str {
     }
 }
 
-/// Tells why a line can't be done.
-fn tell(out: &mut impl Write, err: &mut impl Write, image: &str, fault: &Fault) -> u8 {
-    let _ = out.flush();
-    let _ = writeln!(err, "xnfs: {image}: {fault}");
-    let _ = err.flush();
-    FAILED
-}
-
-/// Tells that a line has no such command, and which there are.
-fn tell_unknown(alloc: Global, err: &mut impl Write, image: &str, word: &str) -> u8 {
-    if let Ok(word) = shown(alloc, word.as_bytes())
-        && let Ok(commands) = commands_told(alloc, false)
-    {
-        let _ = writeln!(
-            err,
-            "xnfs: {image}: no command '{word}': the commands are {commands}"
-        );
-        let _ = err.flush();
-    }
-    USAGE
-}
-
-/// Prints what is told of a line that can't be read, or the help that it asks for.
-fn tell_usage(out: &mut impl Write, err: &mut impl Write, error: &clap::Error) -> u8 {
-    if error.use_stderr() {
-        let _ = write!(err, "{error}");
-        let _ = err.flush();
-        USAGE
-    } else {
-        match write!(out, "{error}") {
-            Ok(()) => DONE,
-            Err(_) => FAILED,
-        }
-    }
-}
-
-/// Does what the words behind the program's name ask for, and answers the program's status: 0 where it was done, and then it is on the
-/// disk; 1 where it could not be, which is told in one line; 2 where the words can't be read. That of a shell is the greatest of its lines.
-pub fn line<R: Files<File = File> + AllocGlobal + Clone + Drop>(
+/// Does what words ask for that are read, and answers the program's status.
+fn run_words<R: Files<File = File> + AllocGlobal + Clock + Clone + Drop>(
     rt: &R,
+    (clock, terminal): (&(impl Clock + RandomSource), Terminal),
     threads: &(impl Threads + Sync),
     alloc: Global,
-    words: &[String],
+    words: &[&str],
     input: &mut impl BufRead,
     out: &mut impl Write,
     err: &mut impl Write,
@@ -320,15 +287,39 @@ pub fn line<R: Files<File = File> + AllocGlobal + Clone + Drop>(
         Ok(Some(request)) => request,
         Ok(None) => return USAGE,
         Err(error) => {
-            return match unknown_command(words) {
-                Some((image, word)) if error.use_stderr() => tell_unknown(alloc, err, image, word),
+            return match unknown_command(alloc, words) {
+                Ok(Some(unknown)) if error.use_stderr() => tell_unknown(alloc, err, unknown),
                 _ => tell_usage(out, err, &error),
             };
         }
     };
-    let done = run(rt, threads, alloc, request, input, out, err);
-    match done {
+    let image = image_of(&request);
+    let outside = (clock, terminal);
+    match run(rt, outside, threads, alloc, request, input, out, err) {
         Ok(status) => status,
-        Err(fault) => tell(out, err, image_of(&request), &fault),
+        Err(fault) => tell(out, err, image, &fault),
+    }
+}
+
+/// Does what the words behind the program's name ask for, and answers the program's status: 0 where it was done, and then it is on the disk; 1 where it could
+/// not be, or not whole, which is told in a line for each path; 2 where the words can't be read. That of a shell is the greatest of its lines. The time, and the
+/// random key of a new volume, come from the clock.
+pub fn line<R: Files<File = File> + AllocGlobal + Clock + Clone + Drop>(
+    rt: &R,
+    (clock, terminal): (&(impl Clock + RandomSource), Terminal),
+    threads: &(impl Threads + Sync),
+    alloc: Global,
+    words: &[String],
+    input: &mut impl BufRead,
+    out: &mut impl Write,
+    err: &mut impl Write,
+) -> u8 {
+    let outside = (clock, terminal);
+    match prepared(alloc, words) {
+        Ok(words) => run_words(rt, outside, threads, alloc, &words, input, out, err),
+        Err(_) => {
+            let _ = writeln!(err, "xnfs: no memory");
+            FAILED
+        }
     }
 }

@@ -1,17 +1,19 @@
-// A shell: words read line by line, done on one open session.
+// A shell: words read line by line, done on one open volume.
 
-use crate::fault::{Fault, Reason, at};
-use crate::lines::{DONE, FAILED, USAGE, run_word};
-use crate::opened::Opened;
-use crate::putting::flush;
-use crate::showing::shown;
-use crate::sources::{Given, read_given};
+use crate::changing::Sources;
+use crate::fault::LineFault;
+use crate::status::{DONE, FAILED, USAGE};
+use crate::system::{Terminal, time_of};
+use crate::telling::told_unknown;
+use crate::words::run_word;
+use flush_store::FlushStore;
+use host_trees::Host;
 use std::alloc::{AllocError, Global};
-use std::fs::{File, Files};
 use std::io::{BufRead, Read, Write};
+use std::time::Clock;
 use std::{io, str};
-use xnfs_session::FlushStore;
-use xnfs_words::{Word, commands_told, read_shell, split, unknown_shell_command};
+use tree_lines::{Fault, Opened, Reason, TOP, View, at, find};
+use xnfs_words::{Word, prepared, read_shell, split, unknown_shell_command};
 
 /// A line has at most so many bytes before its end.
 const LONGEST: u64 = 65_536;
@@ -23,17 +25,20 @@ pub struct Shell<'a> {
     pub image: &'a str,
     /// Whether lines are on the disk only at `sync` and at the end.
     pub is_lazy: bool,
+    pub terminal: Terminal,
 }
 
 /// How a line of a shell ended.
 #[derive(Clone, Copy, Debug, PartialEq, Eq)]
-pub enum Ended {
+enum Ended {
     /// It was done, or passed over.
     Done,
     /// It could not be done, which was told.
     Failed,
     /// Its words could not be read, which was told.
     Unread,
+    /// It ends the shell.
+    Exit,
     /// A stream failed, which was told. No further line is done.
     Cut,
     /// The disk failed, which was told. Nothing more can be done.
@@ -42,13 +47,25 @@ pub enum Ended {
 
 impl Ended {
     /// The status of a program that ends so.
-    pub fn status(self) -> u8 {
+    fn status(self) -> u8 {
         match self {
-            Ended::Done => DONE,
+            Ended::Done | Ended::Exit => DONE,
             Ended::Failed | Ended::Cut | Ended::Broken => FAILED,
             Ended::Unread => USAGE,
         }
     }
+
+    /// Whether a further line is read.
+    fn goes_on(self) -> bool {
+        matches!(self, Ended::Done | Ended::Failed | Ended::Unread)
+    }
+}
+
+/// A line of a shell: its number, and what it says.
+#[derive(Clone, Copy, Debug)]
+struct Line<'l> {
+    number: u64,
+    text: &'l str,
 }
 
 /// What is told of words that can't be read: the lines of that text up to an empty one, as one.
@@ -67,17 +84,19 @@ fn told(alloc: Global, error: &clap::Error) -> Result<String, AllocError> {
     Ok(told)
 }
 
-/// What is told of a command that there isn't.
-fn told_unknown(alloc: Global, word: &str) -> Result<String, AllocError> {
-    let (word, commands) = (shown(alloc, word.as_bytes())?, commands_told(alloc, true)?);
-    format!(in alloc; "no command '{word}': the commands are {commands}")
+/// What is told of the words of a line that can't be read.
+fn told_usage(alloc: Global, words: &[&str], error: &clap::Error) -> Result<String, AllocError> {
+    match unknown_shell_command(alloc, words)? {
+        Some(unknown) => told_unknown(alloc, unknown, true),
+        None => told(alloc, error),
+    }
 }
 
 /// Tells why the words of a line can't be read, or prints the help that they ask for.
 fn tell_usage(
     alloc: Global,
     (image, number): (&str, u64),
-    words: &[String],
+    words: &[&str],
     error: &clap::Error,
     out: &mut impl Write,
     err: &mut impl Write,
@@ -88,48 +107,120 @@ fn tell_usage(
             Err(_) => Ended::Cut,
         };
     }
-    let told = match unknown_shell_command(words) {
-        Some(word) => told_unknown(alloc, word),
-        None => told(alloc, error),
-    };
-    let told = match told {
-        Ok(told) => told,
-        Err(_) => String::new(alloc),
-    };
-    let _ = writeln!(err, "xnfs: {image}: line {number}: {told}");
+    match told_usage(alloc, words, error) {
+        Ok(told) => {
+            let _ = writeln!(err, "xnfs: {image}: line {number}: {told}");
+        }
+        Err(_) => {
+            let _ = writeln!(err, "xnfs: {image}: line {number}: no memory");
+        }
+    }
     Ended::Unread
 }
 
-/// Does what a word of a shell asks for.
-fn run_shell_word<R: Files<File = File> + AllocGlobal + Clone + Drop, S: FlushStore + Drop>(
-    rt: &R,
-    volume: &mut Opened<S>,
+/// `cd`: paths begin from another folder.
+fn change_folder<S: FlushStore + Drop>(
+    opened: &mut Opened<S>,
     alloc: Global,
-    word: Word,
-    is_lazy: bool,
+    path: &str,
+) -> Result<(), Fault> {
+    let node = find(&opened.session, alloc, opened.folder, path, true)?;
+    if !node.is_folder() {
+        return Err(at(alloc, path, Reason::NoFolder));
+    }
+    opened.folder = node.number;
+    Ok(())
+}
+
+/// The name of a folder in the folder in which it stands.
+fn name_in<V: View>(
+    view: &V,
+    alloc: Global,
+    (above, folder): (u32, u32),
+) -> Result<Vec<u8>, Reason> {
+    for named in view.names(alloc, above)? {
+        if named.number == folder {
+            return Ok(named.name);
+        }
+    }
+    Err(Reason::Missing)
+}
+
+/// The path of a folder from the top one.
+fn path_of<V: View>(view: &V, alloc: Global, folder: u32) -> Result<Vec<u8>, Reason> {
+    let mut path = Vec::new(alloc);
+    let mut folder = folder;
+    for _level in 0..u32::MAX {
+        if folder == TOP {
+            break;
+        }
+        let above = view.find(alloc, folder, b"..", true)?;
+        let mut longer = Vec::from_slice(alloc, b"/")?;
+        longer.extend_from_slice(&name_in(view, alloc, (above, folder))?)?;
+        longer.extend_from_slice(&path)?;
+        path = longer;
+        folder = above;
+    }
+    if path.is_empty() {
+        path.push(b'/')?;
+    }
+    Ok(path)
+}
+
+/// `pwd`: the path of the folder from which paths begin.
+fn print_folder<S: FlushStore + Drop>(
+    opened: &Opened<S>,
+    alloc: Global,
     out: &mut impl Write,
 ) -> Result<(), Fault> {
-    let given = match word {
-        Word::Put { source: "-", .. } => return Err(at(alloc, "-", Reason::Lines)),
-        Word::Put { source, .. } => {
-            let mut none: &[u8] = &[];
-            read_given(rt, alloc, source, &mut none)?
+    match path_of(&opened.session, alloc, opened.folder) {
+        Ok(path) => {
+            let path = tree_lines::shown(alloc, &path)?;
+            writeln!(out, "{path}")?;
+            Ok(())
         }
-        _ => Given::Nothing,
+        Err(reason) => Err(at(alloc, ".", reason)),
+    }
+}
+
+/// Does what a word of a shell asks for. What it changed is on the disk then, but where the shell is lazy.
+fn run_shell_word<H: Host, S: FlushStore + Drop>(
+    host: &H,
+    opened: &mut Opened<S>,
+    alloc: Global,
+    (word, shell): (&Word, Shell),
+    out: &mut impl Write,
+) -> Result<(), Fault> {
+    match word {
+        Word::ChangeFolder { path } => return change_folder(opened, alloc, path),
+        Word::Folder => return print_folder(opened, alloc, out),
+        Word::Sync => return opened.sync(alloc),
+        _ => {}
+    }
+    let sources = Sources {
+        disk: shell.image,
+        has_lines: true,
     };
-    run_word(rt, volume, alloc, (word, is_lazy), given, out)
+    let mut none: &[u8] = &[];
+    let done = run_word(host, opened, alloc, (word, sources), &mut none, out);
+    if shell.is_lazy || opened.is_broken() || crate::looking::is_looking(word) {
+        return done;
+    }
+    let synced = opened.sync(alloc);
+    done?;
+    synced
 }
 
 /// Tells what a line of a shell left out, and its fault, and answers how it ended.
 fn tell_ended<S: FlushStore + Drop>(
-    volume: &mut Opened<S>,
+    opened: &mut Opened<S>,
     alloc: Global,
     (image, number): (&str, u64),
     done: Result<(), Fault>,
     out: &mut impl Write,
     err: &mut impl Write,
 ) -> Ended {
-    let told = volume.take_told(alloc);
+    let told = opened.told.take(alloc);
     if !told.is_empty() || done.is_err() {
         let _ = out.flush();
     }
@@ -141,44 +232,9 @@ fn tell_ended<S: FlushStore + Drop>(
         Ok(()) => Ended::Failed,
         Err(fault) => {
             let _ = writeln!(err, "xnfs: {image}: line {number}: {fault}");
-            ended_by(&fault, volume.is_broken)
+            ended_by(&fault, opened.is_broken())
         }
     }
-}
-
-/// Does what a line of a shell asks for, by its number, and tells its fault. Blank lines and those that begin with `#` are passed over.
-pub fn shell_line<R: Files<File = File> + AllocGlobal + Clone + Drop, S: FlushStore + Drop>(
-    rt: &R,
-    volume: &mut Opened<S>,
-    alloc: Global,
-    shell: Shell,
-    (number, line): (u64, &str),
-    out: &mut impl Write,
-    err: &mut impl Write,
-) -> Ended {
-    let image = shell.image;
-    let line = line.trim();
-    if line.is_empty() || line.starts_with('#') {
-        return Ended::Done;
-    }
-    let words = match split(alloc, line) {
-        Ok(Some(words)) => words,
-        Ok(None) => {
-            let _ = writeln!(err, "xnfs: {image}: line {number}: a quote is not closed");
-            return Ended::Unread;
-        }
-        Err(_) => {
-            let _ = writeln!(err, "xnfs: {image}: line {number}: no memory");
-            return Ended::Failed;
-        }
-    };
-    let word = match read_shell(alloc, &words) {
-        Ok(Some(word)) => word,
-        Ok(None) => return Ended::Unread,
-        Err(error) => return tell_usage(alloc, (image, number), &words, &error, out, err),
-    };
-    let done = run_shell_word(rt, volume, alloc, word, shell.is_lazy, out);
-    tell_ended(volume, alloc, (image, number), done, out, err)
 }
 
 /// How a line ends with a fault, which may be that of a disk that is broken from then on.
@@ -188,6 +244,60 @@ fn ended_by(fault: &Fault, is_broken: bool) -> Ended {
         Fault::Stream(_) => Ended::Cut,
         _ => Ended::Failed,
     }
+}
+
+/// Does what the words of a line ask for, and tells its fault.
+fn run_words<H: Host, S: FlushStore + Drop>(
+    host: &H,
+    opened: &mut Opened<S>,
+    alloc: Global,
+    (shell, number): (Shell, u64),
+    words: &[&str],
+    out: &mut impl Write,
+    err: &mut impl Write,
+) -> Ended {
+    let line = (shell.image, number);
+    let word = match read_shell(alloc, words) {
+        Ok(Some(word)) => word,
+        Ok(None) => return Ended::Unread,
+        Err(error) => return tell_usage(alloc, line, words, &error, out, err),
+    };
+    if let Word::Exit = word {
+        return Ended::Exit;
+    }
+    let done = run_shell_word(host, opened, alloc, (&word, shell), out);
+    tell_ended(opened, alloc, line, done, out, err)
+}
+
+/// Does what a line of a shell asks for, and tells its fault. A line without words is passed over.
+fn run_line<H: Host, S: FlushStore + Drop>(
+    host: &H,
+    opened: &mut Opened<S>,
+    alloc: Global,
+    (shell, line): (Shell, Line),
+    out: &mut impl Write,
+    err: &mut impl Write,
+) -> Ended {
+    let (image, number) = (shell.image, line.number);
+    let words = match split(alloc, line.text) {
+        Ok(Some(words)) => words,
+        Ok(None) => {
+            let _ = writeln!(err, "xnfs: {image}: line {number}: a quote is not closed");
+            return Ended::Unread;
+        }
+        Err(_) => return no_memory(image, number, err),
+    };
+    match prepared(alloc, &words) {
+        Ok(words) if words.is_empty() => Ended::Done,
+        Ok(words) => run_words(host, opened, alloc, (shell, number), &words, out, err),
+        Err(_) => no_memory(image, number, err),
+    }
+}
+
+/// Tells that there is no memory for the words of a line.
+fn no_memory(image: &str, number: u64, err: &mut impl Write) -> Ended {
+    let _ = writeln!(err, "xnfs: {image}: line {number}: no memory");
+    Ended::Failed
 }
 
 /// What a shell's input has next.
@@ -213,17 +323,19 @@ fn next_line(alloc: Global, input: &mut impl BufRead) -> io::Result<Next> {
 }
 
 /// Does a line of a shell, whose bytes may be no text.
-fn run_line<R: Files<File = File> + AllocGlobal + Clone + Drop, S: FlushStore + Drop>(
-    rt: &R,
-    volume: &mut Opened<S>,
+fn run_bytes<H: Host, S: FlushStore + Drop>(
+    host: &H,
+    opened: &mut Opened<S>,
     alloc: Global,
-    shell: Shell,
-    (number, line): (u64, &[u8]),
+    (shell, number, line): (Shell, u64, &[u8]),
     out: &mut impl Write,
     err: &mut impl Write,
 ) -> Ended {
     match str::from_utf8(line) {
-        Ok(line) => shell_line(rt, volume, alloc, shell, (number, line), out, err),
+        Ok(text) => {
+            let line = Line { number, text };
+            run_line(host, opened, alloc, (shell, line), out, err)
+        }
         Err(_) => {
             let image = shell.image;
             let _ = writeln!(err, "xnfs: {image}: line {number}: is not text");
@@ -232,56 +344,53 @@ fn run_line<R: Files<File = File> + AllocGlobal + Clone + Drop, S: FlushStore + 
     }
 }
 
-/// Does the lines of a shell up to the end of its input, to one that is too long, or to a fault of the disk or a stream. Answers the greatest of their
-/// statuses, and whether the disk still can be written. A fault is that of a stream between two lines.
-fn run_lines<R: Files<File = File> + AllocGlobal + Clone + Drop, S: FlushStore + Drop>(
-    rt: &R,
-    volume: &mut Opened<S>,
+/// Writes the prompt of a shell at a terminal.
+fn prompt(terminal: Terminal, out: &mut impl Write) -> io::Result<()> {
+    if terminal == Terminal::Prompted {
+        write!(out, "xnfs> ")?;
+        out.flush()?;
+    }
+    Ok(())
+}
+
+/// Tells that a line is too long, which ends the shell.
+fn tell_too_long((image, number): (&str, u64), err: &mut impl Write) -> Ended {
+    let _ = writeln!(
+        err,
+        "xnfs: {image}: line {number}: more than {LONGEST} bytes, here the shell ends"
+    );
+    Ended::Unread
+}
+
+/// Does the lines of a shell up to the end of its input, to `exit`, to one that is too long, or to a fault of the disk or a stream, and answers the greatest of
+/// their statuses. A fault is that of a stream between two lines.
+pub fn run_shell<H: Host, S: FlushStore + Drop>(
+    (host, clock): (&H, &impl Clock),
+    opened: &mut Opened<S>,
     alloc: Global,
     shell: Shell,
     input: &mut impl BufRead,
     out: &mut impl Write,
     err: &mut impl Write,
-) -> Result<(u8, bool), Fault> {
+) -> Result<u8, LineFault> {
     let mut status = DONE;
     for number in 1..u64::MAX {
-        let ended = match next_line(alloc, input)? {
+        prompt(shell.terminal, out)?;
+        let (ended, is_last) = match next_line(alloc, input)? {
             Next::Nothing => break,
-            Next::TooLong => {
-                let image = shell.image;
-                let _ = writeln!(
-                    err,
-                    "xnfs: {image}: line {number}: more than {LONGEST} bytes, here the shell ends"
-                );
-                return Ok((status.max(USAGE), true));
+            Next::TooLong => (tell_too_long((shell.image, number), err), true),
+            Next::Line(line) => {
+                opened.session.set_clock(time_of(clock)?);
+                let line = (shell, number, line.as_slice());
+                (run_bytes(host, opened, alloc, line, out, err), false)
             }
-            Next::Line(line) => { run_line(rt, volume, alloc, shell, (number, &line), out, err) }
         };
         let _ = err.flush();
         status = status.max(ended.status());
-        match ended {
-            Ended::Broken => return Ok((status, false)),
-            Ended::Cut => return Ok((status, true)),
-            Ended::Done | Ended::Failed | Ended::Unread => out.flush()?,
+        if is_last || !ended.goes_on() {
+            break;
         }
+        out.flush()?;
     }
-    Ok((status, true))
-}
-
-/// Does the lines of a shell, and answers the greatest of their statuses. All that they did is on the disk then, also where a stream failed.
-pub fn run_shell<R: Files<File = File> + AllocGlobal + Clone + Drop, S: FlushStore + Drop>(
-    rt: &R,
-    volume: &mut Opened<S>,
-    alloc: Global,
-    shell: Shell,
-    input: &mut impl BufRead,
-    out: &mut impl Write,
-    err: &mut impl Write,
-) -> Result<u8, Fault> {
-    let ran = run_lines(rt, volume, alloc, shell, input, out, err);
-    if !matches!(&ran, Ok((_, false))) {
-        flush(volume, alloc)?;
-    }
-    let (status, _) = ran?;
     Ok(status)
 }

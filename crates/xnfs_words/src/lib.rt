@@ -1,13 +1,19 @@
-//! The words of a command line of `xnfs`, and of the lines of its shell.
+//! Command lines of `xnfs` on volumes of trees, and the lines of its shell: what they ask for, and what is told of those that can't be read.
 //! May touch: memory.
 #![tactic(auto)]
 
 mod forms;
+mod preparing;
 mod reader;
 mod request;
+mod sizes;
 mod splitting;
 mod unknown;
+mod word;
 
-pub use request::{Request, Word, read, read_shell};
+pub use preparing::prepared;
+pub use request::{Request, read, read_shell};
+pub use sizes::{blocks_of, size_of};
 pub use splitting::split;
-pub use unknown::{commands_told, unknown_command, unknown_shell_command};
+pub use unknown::{Unknown, commands_told, unknown_command, unknown_shell_command};
+pub use word::{FoundKind, ListForm, Word};

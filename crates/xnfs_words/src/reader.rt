@@ -1,6 +1,6 @@
 // The readers of command lines.
 
-use crate::forms::{Form, Part, Place, own_forms, word_forms};
+use crate::forms::{Choice, Flag, Form, Part, Place, forms_of};
 use clap::{Arg, ArgAction, Command, value_parser};
 use std::alloc::{AllocError, Global};
 
@@ -9,10 +9,11 @@ const ABOUT: &str = "Files in a disk image: `xnfs format IMAGE BLOCKS`, or `xnfs
 
 /// What is told of the whole.
 const EXAMPLES: &str = "Examples:
-  xnfs format disk.img 1024        make a disk of 512 KiB with an empty volume
-  xnfs disk.img put notes.txt /notes.txt
-  xnfs disk.img ls -l /
+  xnfs format disk.img 16M              make a disk of 16 MiB with an empty volume
+  xnfs disk.img put notes.txt pictures /
+  xnfs disk.img ls -l /pictures
   xnfs disk.img get /notes.txt copy.txt
+  xnfs disk.img shell                   read commands from standard input
 A command that ended with status 0 is on the disk. One that was stopped leaves each file whole.";
 
 /// The number of the file system.
@@ -36,9 +37,10 @@ fn stop<'a>(alloc: Global) -> Arg<'a> {
 
 /// That a line makes no sync.
 fn no_sync<'a>(alloc: Global) -> Arg<'a> {
-    flag(alloc, "no-sync", None).help(
-        "for tests: sync nothing, so that a crash of the system may lose what was done",
-    )
+    Arg::new(alloc, "no-sync")
+        .long("no-sync")
+        .action(ArgAction::SetTrue)
+        .help("for tests: sync nothing, so that a crash of the system may lose what was done")
 }
 
 /// A word that has to be there.
@@ -46,66 +48,84 @@ fn wanted<'a>(alloc: Global, name: &'static str, help: &'static str) -> Arg<'a> 
     Arg::new(alloc, name).required(true).help(help)
 }
 
-/// A part of a command's line.
-fn part<'a>(alloc: Global, part: &Part) -> Arg<'a> {
-    match *part {
-        Part::Wanted { name, help } => wanted(alloc, name, help),
-        Part::Folder => Arg::new(alloc, "PATH")
-            .default_value("/")
-            .help("a path in the volume"),
-        Part::Flag { name, short, help } => flag(alloc, name, short).help(help),
-    }
+/// Words of which one or more have to be there.
+fn several<'a>(alloc: Global, name: &'static str, help: &'static str) -> Arg<'a> {
+    wanted(alloc, name, help).num_args(1..)
+}
+
+/// The path of a folder, with what stands for it where it is left out.
+fn folder<'a>(alloc: Global, default: &'static str) -> Arg<'a> {
+    Arg::new(alloc, "PATH")
+        .default_value(default)
+        .help("a path in the volume")
 }
 
 /// A word that may be there.
-fn flag<'a>(alloc: Global, name: &'static str, short: Option<char>) -> Arg<'a> {
-    let flag = Arg::new(alloc, name).long(name).action(ArgAction::SetTrue);
-    match short {
-        Some(short) => flag.short(short),
-        None => flag,
+fn flag<'a>(alloc: Global, flag: &Flag) -> Result<Arg<'a>, AllocError> {
+    let mut made = Arg::new(alloc, flag.name)
+        .long(flag.name)
+        .action(ArgAction::Count)
+        .help(flag.help);
+    if let Some(short) = flag.short {
+        made = made.short(short);
     }
+    match flag.alias {
+        Some(alias) => made.short_alias(alias),
+        None => Ok(made),
+    }
+}
+
+/// A word with a value behind it.
+fn choice<'a>(alloc: Global, choice: &Choice) -> Arg<'a> {
+    let mut made = Arg::new(alloc, choice.name)
+        .long(choice.name)
+        .value_name(choice.value)
+        .required(choice.required)
+        .help(choice.help);
+    if !choice.values.is_empty() {
+        made = made.value_parser(choice.values);
+    }
+    match choice.short {
+        Some(short) => made.short(short),
+        None => made,
+    }
+}
+
+/// A part of a command's line.
+fn part<'a>(alloc: Global, part: &Part) -> Result<Arg<'a>, AllocError> {
+    let made = match part {
+        Part::Wanted { name, help } => wanted(alloc, name, help),
+        Part::WantedSigned { name, help } => wanted(alloc, name, help).allow_hyphen_values(true),
+        Part::Several { name, help } => several(alloc, name, help),
+        Part::Folder => folder(alloc, "."),
+        Part::Folders => folder(alloc, ".").num_args(0..),
+        Part::FolderOrTop => folder(alloc, "/"),
+        Part::Flag(it) => flag(alloc, it)?,
+        Part::Choice(it) => choice(alloc, it),
+    };
+    Ok(made)
 }
 
 /// A command of this form.
 fn command<'a>(alloc: Global, form: &Form) -> Result<Command<'a>, AllocError> {
-    let mut command = Command::new(alloc, form.name).about(form.about);
-    if let Some(after) = form.after {
-        command = command.after_help(after);
-    }
+    let mut command = Command::new(alloc, form.name)
+        .about(form.about)
+        .after_help(form.after);
     for it in form.parts {
-        command = command.arg(part(alloc, it))?;
+        command = command.arg(part(alloc, it)?)?;
     }
     Ok(command)
-}
-
-/// Adds commands of these forms to others.
-fn add<'a>(
-    alloc: Global,
-    commands: &mut Vec<Command<'a>>,
-    forms: &[Form],
-) -> Result<(), AllocError> {
-    for form in forms {
-        commands.push(command(alloc, form)?)?;
-    }
-    Ok(())
 }
 
 /// The commands that a line or a shell has.
 fn commands<'a>(alloc: Global, place: Place) -> Result<Vec<Command<'a>>, AllocError> {
     let mut commands = Vec::new(alloc);
-    add(alloc, &mut commands, word_forms())?;
-    add(alloc, &mut commands, own_forms(place))?;
+    for forms in forms_of(place) {
+        for form in forms {
+            commands.push(command(alloc, form)?)?;
+        }
+    }
     Ok(commands)
-}
-
-/// How many blocks a disk is to have.
-fn blocks<'a>(alloc: Global) -> Arg<'a> {
-    wanted(
-        alloc,
-        "BLOCKS",
-        "how many blocks of 512 bytes, 32 to 1048576",
-    )
-    .value_parser(value_parser!(u32).range(32..=1048576))
 }
 
 /// A reader of words that stand behind the program's name.
@@ -115,14 +135,15 @@ fn reader<'a>(alloc: Global, name: &'static str, about: &'static str) -> Command
 
 /// The reader of the words behind `format`.
 pub fn format_reader<'a>(alloc: Global) -> Result<Command<'a>, AllocError> {
+    let blocks = "how many blocks of 512 bytes, 32 to 1048576, or a size as 64K, 16M";
     reader(
         alloc,
         "xnfs format",
         "make a file that is a disk with an empty volume",
     )
-    .after_help("Example: xnfs format disk.img 1024")
+    .after_help("Example: xnfs format disk.img 16M")
     .arg(wanted(alloc, "IMAGE", "the file to make"))?
-    .arg(blocks(alloc))?
+    .arg(wanted(alloc, "BLOCKS", blocks))?
     .arg(file_system(alloc))
 }
 
@@ -135,7 +156,7 @@ fn options_reader<'a>(alloc: Global) -> Result<Command<'a>, AllocError> {
     );
     reader(alloc, "xnfs", ABOUT)
         .after_help(EXAMPLES)
-        .version("0.1")
+        .version("0.2")
         .arg(image)?
         .arg(file_system(alloc))?
         .arg(stop(alloc))?

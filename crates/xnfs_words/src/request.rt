@@ -1,48 +1,19 @@
 // What a command line asks for.
 
 use crate::reader::{disk_reader, format_reader, shell_reader};
-use clap::{ArgMatches, Error};
-use std::alloc::Global;
+use crate::sizes::{blocks_of, size_of};
+use crate::word::{FoundKind, ListForm, Word};
+use clap::error::ErrorKind;
+use clap::{ArgMatches, Command, Error};
+use std::alloc::{AllocError, Global};
 
-/// What is done to the files of a disk. Paths are those of its volume, but for `source` and `target`, which are the system's.
-#[derive(Clone, Copy, Debug)]
-pub enum Word<'a> {
-    /// The names in a folder, or of a file; long with kind, links and size.
-    List { path: &'a str, is_long: bool },
-    /// All that stands below a folder.
-    Tree { path: &'a str },
-    /// A file's bytes.
-    Cat { path: &'a str },
-    /// What stands at a path.
-    Stat { path: &'a str },
-    /// What is taken and what is left, beside the limits.
-    Usage,
-    /// A file, or a folder with all below it, is brought into the volume; `-` is standard input.
-    Put { source: &'a str, path: &'a str },
-    /// A file, or a folder with all below it, is brought out of the volume; `-` is standard output.
-    Get { path: &'a str, target: &'a str },
-    /// A folder is made, perhaps with those above it.
-    MakeFolder { path: &'a str, with_parents: bool },
-    /// A file is given up, or a folder with all below it.
-    Remove { path: &'a str, is_recursive: bool },
-    /// An empty folder is given up.
-    RemoveFolder { path: &'a str },
-    /// A file or a folder gets another name.
-    Move { path: &'a str, to: &'a str },
-    /// A file is copied.
-    Copy { path: &'a str, to: &'a str },
-    /// The disk and its names are checked, and perhaps what a crash has left is repaired.
-    Check { is_repairing: bool },
-    /// The blocks of the volume and their owners.
-    Graph,
-    /// These words are read from standard input, a line each; lazily, they are on the disk at `Sync` and at the end.
-    Shell { is_lazy: bool },
-    /// All lines of a shell so far are on the disk.
-    Sync,
-}
+/// The fewest and the most blocks of a disk.
+const LEAST_BLOCKS: u32 = 32;
+
+const MOST_BLOCKS: u32 = 1_048_576;
 
 /// What a command line asks for.
-#[derive(Clone, Copy, Debug)]
+#[derive(Debug, Drop)]
 pub enum Request<'a> {
     /// A file is made that is a disk of so many blocks with an empty volume.
     Format {
@@ -62,9 +33,223 @@ pub enum Request<'a> {
     },
 }
 
-/// A value that has to be there.
-fn value<'a>(matches: &ArgMatches<'a>, id: &str) -> &'a str {
-    matches.get_str(id).unwrap_or("")
+/// The words of a command's line, as they were found.
+#[derive(Clone, Copy)]
+struct Found<'a, 'f> {
+    alloc: Global,
+    matches: &'f ArgMatches<'a>,
+}
+
+impl<'a, 'f> Found<'a, 'f> {
+    /// A value that has to be there.
+    fn value(&self, id: &str) -> &'a str {
+        self.matches.get_str(id).unwrap_or("")
+    }
+
+    /// Whether a flag is there.
+    fn has(&self, id: &str) -> bool {
+        self.matches.get_count(id) > 0
+    }
+
+    /// Values that have to be there.
+    fn values(&self, id: &str) -> Result<Vec<&'a str>, AllocError> {
+        match self.matches.get_strs(id) {
+            Some(values) => Vec::from_slice(self.alloc, values),
+            None => Ok(Vec::new(self.alloc)),
+        }
+    }
+
+    /// The paths.
+    fn paths(&self) -> Result<Vec<&'a str>, AllocError> {
+        self.values("PATH")
+    }
+
+    /// How names are to be told.
+    fn list_form(&self) -> ListForm {
+        ListForm {
+            is_long: self.has("long"),
+            has_hidden: self.has("all"),
+            is_recursive: self.has("recursive"),
+            is_json: self.has("json"),
+        }
+    }
+
+    /// What kind of thing is looked for.
+    fn kind(&self) -> Option<FoundKind> {
+        match self.matches.get_str("type")? {
+            "f" => Some(FoundKind::File),
+            "d" => Some(FoundKind::Folder),
+            "l" => Some(FoundKind::SymbolicLink),
+            _ => None,
+        }
+    }
+
+    /// The word of a command that looks.
+    fn looking_word(&self, name: &str) -> Result<Option<Word<'a>>, AllocError> {
+        let word = match name {
+            "ls" => Word::List {
+                paths: self.paths()?,
+                form: self.list_form(),
+            },
+            "tree" => Word::Tree {
+                path: self.value("PATH"),
+            },
+            "cat" => Word::Cat {
+                paths: self.paths()?,
+            },
+            "stat" => Word::Stat {
+                paths: self.paths()?,
+                is_json: self.has("json"),
+            },
+            "readlink" => Word::ReadLink {
+                paths: self.paths()?,
+            },
+            "find" => Word::Find {
+                paths: self.paths()?,
+                name: self.matches.get_str("name"),
+                kind: self.kind(),
+            },
+            "du" => Word::DiskUsage {
+                paths: self.paths()?,
+                is_summary: self.has("summarize"),
+            },
+            _ => return Ok(None),
+        };
+        Ok(Some(word))
+    }
+
+    /// The word of a command that brings files in or out, or gives them other names.
+    fn moving_word(&self, name: &str) -> Result<Option<Word<'a>>, AllocError> {
+        let word = match name {
+            "put" => Word::Put {
+                sources: self.values("SOURCE")?,
+                path: self.value("PATH"),
+            },
+            "get" => Word::Get {
+                paths: self.paths()?,
+                target: self.value("TARGET"),
+            },
+            "cp" => Word::Copy {
+                paths: self.paths()?,
+                to: self.value("TO"),
+                is_recursive: self.has("recursive"),
+            },
+            "mv" => Word::Move {
+                paths: self.paths()?,
+                to: self.value("TO"),
+            },
+            "ln" => Word::Link {
+                target: self.value("TARGET"),
+                path: self.value("PATH"),
+                is_symbolic: self.has("symbolic"),
+            },
+            _ => return Ok(None),
+        };
+        Ok(Some(word))
+    }
+
+    /// The word of a command that makes, gives up or sets.
+    fn setting_word(&self, name: &str) -> Result<Option<Word<'a>>, AllocError> {
+        let word = match name {
+            "rm" => Word::Remove {
+                paths: self.paths()?,
+                is_recursive: self.has("recursive"),
+                is_forced: self.has("force"),
+            },
+            "mkdir" => Word::MakeFolder {
+                paths: self.paths()?,
+                with_parents: self.has("parents"),
+            },
+            "rmdir" => Word::RemoveFolder {
+                paths: self.paths()?,
+            },
+            "chmod" => Word::ChangeMode {
+                mode: self.value("MODE"),
+                paths: self.paths()?,
+                is_recursive: self.has("recursive"),
+            },
+            "chown" => Word::ChangeOwner {
+                owner: self.value("OWNER"),
+                paths: self.paths()?,
+                is_recursive: self.has("recursive"),
+            },
+            "touch" => Word::Touch {
+                paths: self.paths()?,
+                date: self.matches.get_str("date"),
+            },
+            _ => return Ok(None),
+        };
+        Ok(Some(word))
+    }
+
+    /// The word of a command without paths.
+    fn plain_word(&self, name: &str) -> Option<Word<'a>> {
+        let word = match name {
+            "df" => Word::FreeSpace {
+                is_json: self.has("json"),
+            },
+            "check" => Word::Check {
+                is_repairing: self.has("repair"),
+                is_json: self.has("json"),
+            },
+            "shell" => Word::Shell {
+                is_lazy: self.has("lazy"),
+            },
+            "sync" => Word::Sync,
+            "cd" => Word::ChangeFolder {
+                path: self.value("PATH"),
+            },
+            "pwd" => Word::Folder,
+            "exit" | "quit" => Word::Exit,
+            _ => return None,
+        };
+        Some(word)
+    }
+
+    /// The word of `truncate`.
+    fn truncate(&self, command: &mut Command<'a>) -> Result<Word<'a>, Error> {
+        let size = self.value("size");
+        match size_of(size) {
+            Some(size) => Ok(Word::Truncate {
+                paths: self.paths()?,
+                size,
+            }),
+            None => Err(no_value(
+                self.alloc,
+                command,
+                size,
+                "a number of bytes, or as 64K, 1M, 2G",
+            )?),
+        }
+    }
+
+    /// The word of a command.
+    fn word(&self, command: &mut Command<'a>, name: &str) -> Result<Option<Word<'a>>, Error> {
+        if name == "truncate" {
+            return Ok(Some(self.truncate(command)?));
+        }
+        if let Some(word) = self.looking_word(name)? {
+            return Ok(Some(word));
+        }
+        if let Some(word) = self.moving_word(name)? {
+            return Ok(Some(word));
+        }
+        match self.setting_word(name)? {
+            Some(word) => Ok(Some(word)),
+            None => Ok(self.plain_word(name)),
+        }
+    }
+}
+
+/// What is told of a value that is none.
+fn no_value(
+    alloc: Global,
+    command: &mut Command<'_>,
+    value: &str,
+    wanted: &str,
+) -> Result<Error, AllocError> {
+    let told = format!(in alloc; "invalid value {value:?}: wanted is {wanted}")?;
+    command.error(ErrorKind::ValueValidation, told.as_str())
 }
 
 /// The number of the file system, 0 where none is told.
@@ -72,106 +257,69 @@ fn fs_of(matches: &ArgMatches) -> u8 {
     matches.get_one::<u8>("fs").unwrap_or(0)
 }
 
-/// The word that a subcommand stands for.
-fn word_of<'a>(name: &str, found: &ArgMatches<'a>) -> Option<Word<'a>> {
-    let path = found.get_str("PATH").unwrap_or("/");
-    let word = match name {
-        "ls" => Word::List {
-            path,
-            is_long: found.get_flag("long"),
-        },
-        "tree" => Word::Tree { path },
-        "cat" => Word::Cat { path },
-        "stat" => Word::Stat { path },
-        "df" => Word::Usage,
-        "put" => Word::Put {
-            source: value(found, "SOURCE"),
-            path,
-        },
-        "get" => Word::Get {
-            path,
-            target: value(found, "TARGET"),
-        },
-        _ => return changing_word(name, path, found),
-    };
-    Some(word)
-}
-
-/// The same of words that change what stands in the volume, and of the others.
-fn changing_word<'a>(name: &str, path: &'a str, found: &ArgMatches<'a>) -> Option<Word<'a>> {
-    let word = match name {
-        "mkdir" => Word::MakeFolder {
-            path,
-            with_parents: found.get_flag("parents"),
-        },
-        "rm" => Word::Remove {
-            path,
-            is_recursive: found.get_flag("recursive"),
-        },
-        "rmdir" => Word::RemoveFolder { path },
-        "mv" => Word::Move {
-            path,
-            to: value(found, "TO"),
-        },
-        "cp" => Word::Copy {
-            path,
-            to: value(found, "TO"),
-        },
-        "check" => Word::Check {
-            is_repairing: found.get_flag("repair"),
-        },
-        "graph" => Word::Graph,
-        "shell" => Word::Shell {
-            is_lazy: found.get_flag("lazy"),
-        },
-        "sync" => Word::Sync,
-        _ => return None,
-    };
-    Some(word)
-}
-
-/// Reads the words behind the program's name. An error has the text that is to be printed, also where help is asked for.
-pub fn read<'a>(alloc: Global, words: &'a [String]) -> Result<Option<Request<'a>>, Error> {
+/// Reads the words behind the program's name, as `prepared` answers them. An error has the text that is to be printed, also where help is asked for.
+pub fn read<'a>(alloc: Global, words: &'a [&'a str]) -> Result<Option<Request<'a>>, Error> {
     match words.first() {
-        Some(first) if first.as_str() == "format" => read_format(alloc, &words[1..]),
+        Some(&"format") => read_format(alloc, &words[1..]),
         _ => read_disk(alloc, words),
     }
 }
 
 /// The words behind `format`.
-fn read_format<'a>(alloc: Global, words: &'a [String]) -> Result<Option<Request<'a>>, Error> {
-    let matches = format_reader(alloc)?.try_get_matches_from(words)?;
-    Ok(Some(Request::Format {
-        image: value(&matches, "IMAGE"),
-        blocks: matches.get_one::<u32>("BLOCKS").unwrap_or(0),
-        fs: fs_of(&matches),
-    }))
+fn read_format<'a>(alloc: Global, words: &'a [&'a str]) -> Result<Option<Request<'a>>, Error> {
+    let mut command = format_reader(alloc)?;
+    let matches = command.try_get_matches_from_mut(words)?;
+    let given = matches.get_str("BLOCKS").unwrap_or("");
+    match blocks_of(given) {
+        Some(blocks) if LEAST_BLOCKS <= blocks && blocks <= MOST_BLOCKS => {
+            Ok(Some(Request::Format {
+                image: matches.get_str("IMAGE").unwrap_or(""),
+                blocks,
+                fs: fs_of(&matches),
+            }))
+        }
+        _ => Err(no_value(
+            alloc,
+            &mut command,
+            given,
+            "32 to 1048576 blocks, or as a size 16K to 512M",
+        )?),
+    }
 }
 
 /// The words of any other line.
-fn read_disk<'a>(alloc: Global, words: &'a [String]) -> Result<Option<Request<'a>>, Error> {
-    let matches = disk_reader(alloc)?.try_get_matches_from(words)?;
-    let image = value(&matches, "IMAGE");
-    let fs = fs_of(&matches);
-    let stop = matches.get_one::<u32>("stop");
-    let is_synced = !matches.get_flag("no-sync");
+fn read_disk<'a>(alloc: Global, words: &'a [&'a str]) -> Result<Option<Request<'a>>, Error> {
+    let mut command = disk_reader(alloc)?;
+    let matches = command.try_get_matches_from_mut(words)?;
     let Some((name, found)) = matches.subcommand() else {
         return Ok(None);
     };
-    Ok(word_of(name, found).map(|word| Request::Disk {
-        image,
-        fs,
-        stop,
-        is_synced,
+    let found = Found {
+        alloc,
+        matches: found,
+    };
+    let Some(word) = found.word(&mut command, name)? else {
+        return Ok(None);
+    };
+    Ok(Some(Request::Disk {
+        image: matches.get_str("IMAGE").unwrap_or(""),
+        fs: fs_of(&matches),
+        stop: matches.get_one::<u32>("stop"),
+        is_synced: !matches.get_flag("no-sync"),
         word,
     }))
 }
 
-/// Reads the words of a line of a shell. An error has the text that is to be printed, also where help is asked for.
-pub fn read_shell<'a>(alloc: Global, words: &'a [String]) -> Result<Option<Word<'a>>, Error> {
-    let matches = shell_reader(alloc)?.try_get_matches_from(words)?;
+/// Reads the words of a line of a shell, as `prepared` answers them. An error has the text that is to be printed, also where help is asked for.
+pub fn read_shell<'a>(alloc: Global, words: &'a [&'a str]) -> Result<Option<Word<'a>>, Error> {
+    let mut command = shell_reader(alloc)?;
+    let matches = command.try_get_matches_from_mut(words)?;
     let Some((name, found)) = matches.subcommand() else {
         return Ok(None);
     };
-    Ok(word_of(name, found))
+    let found = Found {
+        alloc,
+        matches: found,
+    };
+    found.word(&mut command, name)
 }

@@ -9,6 +9,8 @@ struct Splitter {
     word: Option<String>,
     /// The quote that is open.
     quote: Option<char>,
+    /// Whether the rest is a comment.
+    is_over: bool,
 }
 
 impl Drop for Splitter {
@@ -17,6 +19,7 @@ impl Drop for Splitter {
             words: _,
             word: _,
             quote: _,
+            is_over: _,
         } = self;
     }
 }
@@ -44,12 +47,22 @@ impl Splitter {
             words,
             word: _,
             quote,
+            is_over: _,
         } = self;
         if quote.is_none() { Some(words) } else { None }
     }
 
+    /// Whether a comment begins with this character.
+    fn begins_comment(&self, c: char) -> bool {
+        c == '#' && self.quote.is_none() && self.word.is_none()
+    }
+
     /// Takes a character.
     fn take(&mut self, alloc: Global, c: char) -> Result<(), AllocError> {
+        self.is_over = self.is_over || self.begins_comment(c);
+        if self.is_over {
+            return Ok(());
+        }
         if self.quote.is_none() && c.is_ascii_whitespace() {
             return self.end();
         }
@@ -64,13 +77,14 @@ impl Splitter {
     }
 }
 
-/// The words of a line: what stands between its blanks, where `'..'` and `".."` keep all that is in them, also blanks and the other
-/// quote. `None` where a quote is not closed.
+/// The words of a line: what stands between its blanks, where `'..'` and `".."` keep all that is in them, also blanks and the other quote. A `#` where a word
+/// would begin ends the line. `None` where a quote is not closed.
 pub fn split(alloc: Global, line: &str) -> Result<Option<Vec<String>>, AllocError> {
     let mut splitter = Splitter {
         words: Vec::new(alloc),
         word: None,
         quote: None,
+        is_over: false,
     };
     for c in line.chars() {
         splitter.take(alloc, c)?;

@@ -2,7 +2,7 @@
 
 ghost use Rattle.std.specs.Prelude.{◌≡◌, ℕ, ◌*◌, ◌≤◌, ◌^◌, IfSome, IsNone, Some, None};
 ghost use Rattle.std.specs.Str.Parse.{IsNumeral, digits_value};
-ghost use Rattle.xnfs_requests.specs.Sizes.{IsBlocks, IsSize, front, last, unit_of};
+ghost use Rattle.xnfs_words.specs.Sizes.{IsBlocks, IsSize, front, last, unit_of};
 
 /// How many bytes the letter behind a number stands for.
 fn unit_of(letter: u8) -> Option<u64>

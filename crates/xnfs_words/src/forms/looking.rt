@@ -2,7 +2,7 @@
 
 use super::{Choice, Flag, Form, JSON, PATHS, Part};
 
-static FORMS: [Form; 10] = [
+static FORMS: [Form; 9] = [
     Form {
         name: "ls",
         about: "list the names in folders",
@@ -111,12 +111,6 @@ static FORMS: [Form; 10] = [
             }),
             JSON,
         ],
-    },
-    Form {
-        name: "graph",
-        about: "print the blocks of the volume and their owners, in DOT",
-        after: "Example: xnfs disk.img graph | dot -Tsvg",
-        parts: &[],
     },
 ];
 

@@ -66,8 +66,6 @@ pub enum Word<'a> {
         is_repairing: bool,
         is_json: bool,
     },
-    /// The blocks of the volume and their owners.
-    Graph,
     /// Files and folders with all below them are brought into the volume; `-` is standard input.
     Put {
         sources: Vec<&'a str>,
