@@ -4,10 +4,12 @@ use crate::fault::{Fault, at_bytes};
 use crate::paths::TOP;
 use crate::reason::{naming_reason_of, reason_of};
 use crate::told::Told;
+use edit_list::Fs;
 use file_disk::SystemFault;
 use flush_store::FlushStore;
 use std::alloc::Global;
 use store_types::Refusal;
+use treefs::BlockTypes;
 use treefs_model::Fault as TreeFault;
 use treefs_session::{Call, Put, Session, Target};
 
@@ -50,21 +52,33 @@ fn refused(system: &Option<SystemFault>, refusal: Refusal) -> Fault {
     }
 }
 
-impl<S: FlushStore + Drop> Opened<S> {
-    /// A volume that was just opened.
-    pub fn new(alloc: Global, session: Session<S>) -> Opened<S> {
-        Opened {
-            session,
-            told: Told::nothing(alloc),
-            folder: TOP,
-            system: None,
-            is_broken: false,
-        }
+/// The fault of a call on a volume as a whole.
+fn volume_fault(system: &Option<SystemFault>, fault: TreeFault) -> Fault {
+    match fault {
+        TreeFault::Kernel(refusal) => refused(system, refusal),
+        fault => Fault::Volume(reason_of(fault, 0)),
     }
+}
 
-    /// Has faults of the disk tell the system's reason.
-    pub fn set_system(&mut self, system: SystemFault) {
-        self.system = Some(system);
+impl<S: FlushStore + Drop> Opened<S> {
+    /// Opens the volume of trees of a file system of a store, as `open` of a session does it. Where the disk is one in a file its faults are told by the system's
+    /// reason.
+    pub fn open(
+        alloc: Global,
+        store: S,
+        (fs, types, time): (Fs, BlockTypes, i64),
+        system: Option<SystemFault>,
+    ) -> Result<Opened<S>, Fault> {
+        match Session::open(alloc, store, fs, types, time) {
+            Ok(session) => Ok(Opened {
+                session,
+                told: Told::nothing(alloc),
+                folder: TOP,
+                system,
+                is_broken: false,
+            }),
+            Err(fault) => Err(volume_fault(&system, fault)),
+        }
     }
 
     /// Whether nothing more can be done.
@@ -168,10 +182,7 @@ impl<S: FlushStore + Drop> Opened<S> {
         } = self;
         match session.close(alloc) {
             Ok(store) => Ok(store),
-            Err(unclosed) => Err(match unclosed.fault {
-                TreeFault::Kernel(refusal) => refused(&system, refusal),
-                fault => Fault::Volume(reason_of(fault, 0)),
-            }),
+            Err(unclosed) => Err(volume_fault(&system, unclosed.fault)),
         }
     }
 

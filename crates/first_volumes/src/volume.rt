@@ -1,0 +1,214 @@
+// An open volume of the first file system is looked at: its permissions, owners and times are made up, as it has none.
+
+use crate::counting::block_count;
+use crate::node::{Named, Node, Stretch, Usage};
+use crate::paths::TOP;
+use crate::reason::{Reason, first_reason_of};
+use crate::view::View;
+use flush_store::FlushStore;
+use std::alloc::Global;
+use treefs_format::Kind;
+use xnfs_session::{FfsFault, MOST_BYTES, MOST_INODES, Session};
+
+/// How many bytes a name has there at most.
+const NAME_LEN: u32 = 28;
+
+/// How many blocks of bytes an inode points to itself.
+const OWN_BLOCKS: u64 = 12;
+
+/// How many bytes a block has.
+const BLOCK_LEN: u64 = 512;
+
+/// What a look answers, with its fault as a reason.
+fn seen<A: Drop>(answer: Result<A, FfsFault>) -> Result<A, Reason> {
+    match answer {
+        Ok(answer) => Ok(answer),
+        Err(fault) => Err(first_reason_of(fault)),
+    }
+}
+
+/// The inode of a number; none has a greater one.
+fn inode_of(number: u32) -> Result<u16, Reason> {
+    match u16::try_from(number) {
+        Ok(inode) => Ok(inode),
+        Err(_) => Err(Reason::Missing),
+    }
+}
+
+/// What stands at a number.
+fn node_of<S: FlushStore + Drop>(session: &Session<S>, number: u32) -> Result<Node, Reason> {
+    let found = seen(session.node(inode_of(number)?))?;
+    let (kind, permissions) = if found.is_directory {
+        (Kind::Directory, 0o755)
+    } else {
+        (Kind::File, 0o644)
+    };
+    Ok(Node {
+        number,
+        kind,
+        permissions,
+        links: u32::from(found.links),
+        uid: 0,
+        gid: 0,
+        size: u64::from(found.size),
+        modified: 0,
+        changed: 0,
+    })
+}
+
+/// The file of a number.
+fn file_of<S: FlushStore + Drop>(session: &Session<S>, number: u32) -> Result<Node, Reason> {
+    let node = node_of(session, number)?;
+    if node.is_folder() {
+        Err(Reason::Folder)
+    } else {
+        Ok(node)
+    }
+}
+
+/// The names of a folder as they stand there.
+fn listed<S: FlushStore + Drop>(
+    session: &Session<S>,
+    alloc: Global,
+    folder: u32,
+) -> Result<Vec<(Vec<u8>, u16)>, Reason> {
+    let inode = inode_of(folder)?;
+    seen(session.volume().list(alloc, session.store(), inode))
+}
+
+/// Whether a folder has a name that leads to a number.
+fn has_number<S: FlushStore + Drop>(
+    session: &Session<S>,
+    alloc: Global,
+    folder: u32,
+    number: u32,
+) -> Result<bool, Reason> {
+    match listed(session, alloc, folder) {
+        Ok(names) => Ok(names.iter().any(|(_, inode)| u32::from(*inode) == number)),
+        Err(Reason::NoMemory) => Err(Reason::NoMemory),
+        Err(_) => Ok(false),
+    }
+}
+
+/// The folder in which a folder stands: the first one that has a name for it.
+fn parent_of<S: FlushStore + Drop>(
+    session: &Session<S>,
+    alloc: Global,
+    number: u32,
+) -> Result<u32, Reason> {
+    if number == TOP {
+        return Ok(TOP);
+    }
+    for folder in 1..=u32::from(MOST_INODES) {
+        if has_number(session, alloc, folder, number)? {
+            return Ok(folder);
+        }
+    }
+    Err(Reason::Missing)
+}
+
+/// Where a name between the slashes of a path leads from a number.
+fn step_of<S: FlushStore + Drop>(
+    session: &Session<S>,
+    alloc: Global,
+    number: u32,
+    name: &[u8],
+) -> Result<u32, Reason> {
+    if !node_of(session, number)?.is_folder() {
+        return Err(Reason::NoFolder);
+    }
+    if name.is_empty() || name == b".".as_slice() {
+        return Ok(number);
+    }
+    if name == b"..".as_slice() {
+        return parent_of(session, alloc, number);
+    }
+    let inode = seen(session.look_up(inode_of(number)?, name))?;
+    Ok(u32::from(inode))
+}
+
+impl<S: FlushStore + Drop> View for Session<S> {
+    fn node(&self, number: u32) -> Result<Node, Reason> {
+        node_of(self, number)
+    }
+
+    fn look_up(&self, folder: u32, name: &[u8]) -> Result<u32, Reason> {
+        let inode = seen(Session::look_up(self, inode_of(folder)?, name))?;
+        Ok(u32::from(inode))
+    }
+
+    fn names(&self, alloc: Global, folder: u32) -> Result<Vec<Named>, Reason> {
+        let mut names = Vec::new(alloc);
+        for (name, inode) in listed(self, alloc, folder)? {
+            names.push(Named {
+                name,
+                number: u32::from(inode),
+            })?;
+        }
+        names.sort_unstable();
+        Ok(names)
+    }
+
+    fn read(&self, number: u32, at: u64, bytes: &mut [u8]) -> Result<usize, Reason> {
+        let file = file_of(self, number)?;
+        match u32::try_from(at) {
+            Ok(at) if u64::from(at) < file.size => seen(
+                self.volume()
+                    .read(self.store(), inode_of(number)?, at, bytes),
+            ),
+            _ => Ok(0),
+        }
+    }
+
+    fn target(&self, _alloc: Global, number: u32) -> Result<Vec<u8>, Reason> {
+        let _node = node_of(self, number)?;
+        Err(Reason::NoLink)
+    }
+
+    fn stretch(&self, number: u32, at: u64, most: u64) -> Result<Option<Stretch>, Reason> {
+        let length = file_of(self, number)?.size.saturating_sub(at).min(most);
+        Ok(if length == 0 {
+            None
+        } else {
+            Some(Stretch { at, length })
+        })
+    }
+
+    fn blocks_held(&self, number: u32) -> Result<u64, Reason> {
+        let blocks = node_of(self, number)?.size.div_ceil(BLOCK_LEN);
+        Ok(if blocks > OWN_BLOCKS {
+            blocks.saturating_add(1)
+        } else {
+            blocks
+        })
+    }
+
+    fn find(
+        &self,
+        alloc: Global,
+        folder: u32,
+        path: &[u8],
+        _is_followed: bool,
+    ) -> Result<u32, Reason> {
+        let mut number = if path.first() == Some(&b'/') {
+            TOP
+        } else {
+            folder
+        };
+        for name in path.split(|byte| *byte == b'/') {
+            number = step_of(self, alloc, number, name)?;
+        }
+        Ok(number)
+    }
+
+    fn usage(&self) -> Usage {
+        let usage = Session::usage(self);
+        Usage {
+            free_blocks: usage.free_blocks,
+            blocks: block_count(self.store(), self.fs()),
+            numbers: Some((u32::from(usage.used_inodes), u32::from(MOST_INODES))),
+            longest_name: NAME_LEN,
+            largest_file: u64::from(MOST_BYTES),
+        }
+    }
+}
