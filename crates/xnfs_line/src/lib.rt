@@ -6,7 +6,6 @@
 #![tactic(auto)]
 
 mod changing;
-mod disks;
 mod fault;
 mod lines;
 mod looking;
