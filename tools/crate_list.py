@@ -11,7 +11,7 @@ COLUMNS = 160
 BEGIN = "<!-- The crates, as `tools/documents --write` makes them of crates.txt and of the heads of root files. -->"
 END = "<!-- The end of the crates. -->"
 MARKED = re.compile(f"{re.escape(BEGIN)}\n(.*?){re.escape(END)}\n", re.DOTALL)
-TOUCHES = ("memory", "threads", "files", "streams", "clock")
+TOUCHES = ("memory", "threads", "files", "streams", "clock", "random bytes")
 PROMISES = "## What carries each crate's promise"
 
 

@@ -1,8 +1,11 @@
 """The small disk of docs/FORMAT.md, by the numbers of the code, for `document_numbers.py`."""
 
+import os
 import re
 
-# The blocks behind those of the templates, in the order in which `xnfs` takes them.
+from made_from import TOP
+
+# The blocks behind those of the templates, in the order in which they were taken.
 INODES, ROOT, ENTRIES, DATA = 1, 2, 3, 4
 ARRAY = r"(?s)const {}: \[u8; \d+\] = \[(.*?)\];"
 
@@ -13,15 +16,15 @@ def array_of(source, name):
 
 
 class SmallDisk:
-    """What the commands above the dump leave. `names` has the numbers of the code, `source` the arrays of the templates, and `text` the commands."""
+    """The disk that the text above the dump tells of. `names` has the numbers of the code, and `source` the arrays of the templates."""
 
     def __init__(self, names, source, text):
         self.code = names
         self.templates = [array_of(source, name) for name in ("ROOT", "INODES", "POINTERS")]
-        self.blocks = int(re.search(r"(?m)^\./xnfs format \S+ (\d+)$", text)[1])
-        self.text = re.search(r"(?m)^printf '(.*)' > hello$", text)[1].replace("\\n", "\n").encode()
-        self.file_name = re.search(r"(?m)^\./xnfs \S+ put hello /(\w+)$", text)[1].encode()
-        self.folder_name = re.search(r"(?m)^\./xnfs \S+ mkdir /(\w+)$", text)[1].encode()
+        self.blocks = int(re.search(r"A disk of (\d+) blocks with a volume of the first library file system", text)[1])
+        self.file_name, self.text = (it.replace("\\n", "\n").encode() for it in re.search(r"the file `/(\w+)` has the bytes `([^`]*)`", text).groups())
+        self.folder_name = re.search(r"the folder `/(\w+)` stands", text)[1].encode()
+        self.path = re.search(r"It is `(\S+)`", text)[1]
         self.template = names["first_template"]
         last = self.template + len(self.templates) - 1
         self.inodes, self.root, self.entries, self.data = (last + it for it in (INODES, ROOT, ENTRIES, DATA))
@@ -78,8 +81,11 @@ class SmallDisk:
         return placed(self.at(self.blocks), blocks)
 
     def dump(self):
-        """The lines of the dump: those that aren't all zeros."""
+        """The lines of the dump: those that aren't all zeros. The file that the text names has the same bytes."""
         data = self.bytes()
+        with open(os.path.join(TOP, self.path), "rb") as file:
+            if file.read() != data:
+                raise ValueError(f"{self.path} has other bytes than docs/FORMAT.md tells")
         return [f"{at:06x} {data[at : at + 16].hex(' ')}" for at in range(0, len(data), 16) if any(data[at : at + 16])]
 
 

@@ -1,4 +1,4 @@
-//! Command lines of `xnfs` on volumes of trees, and the lines of its shell: what they ask for, and what is told of those that can't be read.
+//! Command lines of `xnfs`, and the lines of its shell: what they ask for, and what is told of those that can't be read.
 //! May touch: memory.
 #![tactic(auto)]
 
