@@ -139,7 +139,7 @@ fn copy_dense<S: FlushStore + Drop>(
     let head = read_piece(opened, alloc, copied, 0, &mut head)?;
     let begin = Begin {
         kind: Kind::File,
-        attributes: attributes_of(&copied.node),
+        attributes: attributes_of(opened, &copied.node),
         head: head_of(head),
     };
     let block = opened.make(alloc, copied.to, &begin)?;
@@ -166,7 +166,7 @@ fn copy_link<S: FlushStore + Drop>(
         directory: copied.place.folder,
         name: copied.place.name,
         kind: Kind::SymbolicLink,
-        attributes: attributes_of(&copied.node),
+        attributes: attributes_of(opened, &copied.node),
         bytes: &target,
         replace: true,
     };

@@ -59,7 +59,7 @@ fn copy_folder<S: FlushStore + Drop>(
     let mkdir = Mkdir {
         directory: copied.place.folder,
         name: copied.place.name,
-        attributes: attributes_of(&copied.node),
+        attributes: attributes_of(opened, &copied.node),
     };
     let number = opened.make_name(alloc, copied.to, &mkdir)?;
     Ok((number, true))

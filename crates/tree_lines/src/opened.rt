@@ -81,6 +81,12 @@ impl<S: FlushStore + Drop> Opened<S> {
         }
     }
 
+    /// What tells inodes that a line makes from earlier ones of their numbers: the last bits of its time.
+    pub fn generation(&self) -> u32 {
+        let time = self.session.volume().memory.clock.to_le_bytes();
+        u32::from_le_bytes([time[0], time[1], time[2], time[3]])
+    }
+
     /// Whether nothing more can be done.
     pub fn is_broken(&self) -> bool {
         self.is_broken

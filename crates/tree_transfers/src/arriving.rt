@@ -30,8 +30,6 @@ pub struct Arriving<'a, H: Host, S: FlushStore + Drop> {
     pub disk: Option<HostAttributes>,
     /// The numbers of files of the system with several names, by device and inode.
     pub linked: BTreeMap<(u64, u64), u32>,
-    /// What tells new inodes from earlier ones of their numbers.
-    generation: u32,
 }
 
 impl<'a, H: Host, S: FlushStore + Drop> Drop for Arriving<'a, H, S> {
@@ -43,7 +41,6 @@ impl<'a, H: Host, S: FlushStore + Drop> Drop for Arriving<'a, H, S> {
             progress: _,
             disk: _,
             linked: _,
-            generation: _,
         } = self;
     }
 }
@@ -58,12 +55,6 @@ pub struct Goods<'g> {
     pub attributes: &'g HostAttributes,
 }
 
-/// What tells inodes of this line from others: the last bits of its time.
-fn generation_of(time: i64) -> u32 {
-    let time = time.to_le_bytes();
-    u32::from_le_bytes([time[0], time[1], time[2], time[3]])
-}
-
 impl<'a, H: Host, S: FlushStore + Drop> Arriving<'a, H, S> {
     /// Nothing is brought in yet.
     pub fn begin(
@@ -72,7 +63,6 @@ impl<'a, H: Host, S: FlushStore + Drop> Arriving<'a, H, S> {
         alloc: Global,
         disk: Option<HostAttributes>,
     ) -> Arriving<'a, H, S> {
-        let generation = generation_of(volume.session.volume().memory.clock);
         Arriving {
             host,
             volume,
@@ -80,7 +70,6 @@ impl<'a, H: Host, S: FlushStore + Drop> Arriving<'a, H, S> {
             progress: Progress::begin(host),
             disk,
             linked: BTreeMap::new(alloc),
-            generation,
         }
     }
 
@@ -93,7 +82,6 @@ impl<'a, H: Host, S: FlushStore + Drop> Arriving<'a, H, S> {
             progress,
             disk: _,
             linked: _,
-            generation: _,
         } = self;
         progress.end(host);
     }
@@ -106,7 +94,7 @@ impl<'a, H: Host, S: FlushStore + Drop> Arriving<'a, H, S> {
             permissions: told.permissions,
             uid: told.uid,
             gid: told.gid,
-            generation: self.generation,
+            generation: self.volume.generation(),
         }
     }
 
