@@ -20,9 +20,9 @@ impl<S: FlushStore + Drop> Drop for FirstVolume<S> {
 }
 
 impl<S: FlushStore + Drop> FirstVolume<S> {
-    /// Opens the volume of a file system of a store on which nothing is under way, as `open` of a session does it: what is pending is written first. Reasons are
-    /// `Missing` where there is no such volume, `Unsound` of the least inode that more names lead to than it has links, `NoMemory`, and `Refused` where the disk
-    /// fails.
+    /// Opens the volume of a file system of a store on which nothing is under way, as `open` of a session does it: what is pending is written first. Reasons
+    /// are `Missing` where there is no such volume, `Unsound` of the least inode that more names lead to than it has links, `NoMemory`, and `Refused` where
+    /// the disk fails.
     pub fn open(alloc: Global, store: S, fs: Fs) -> Result<FirstVolume<S>, Reason> {
         match Session::open(alloc, store, fs) {
             Ok(session) => Ok(FirstVolume { session }),
