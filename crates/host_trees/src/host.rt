@@ -49,7 +49,7 @@ pub trait Host {
     /// Makes a folder, which nobody but its owner may enter yet.
     fn make_folder(&self, path: &str) -> io::Result<()>;
 
-    /// Makes a folder where none is, with those above it.
+    /// Makes a folder where none is, with those above it. They have the permissions that the system gives.
     fn make_folders(&self, path: &str) -> io::Result<()>;
 
     /// The user and the group of who runs the program; 0 where the system doesn't tell.

@@ -25,6 +25,8 @@ pub struct Copying {
     pub piece: Vec<u8>,
     /// By the numbers of what has several names, those of their copies.
     copied: BTreeMap<u32, u32>,
+    /// By the numbers of these copies, those of what they are copies of.
+    sources: BTreeMap<u32, u32>,
     /// Whether times are kept, and links among what is copied.
     pub is_recursive: bool,
 }
@@ -44,6 +46,7 @@ impl Copying {
         Ok(Copying {
             piece: vec![in alloc; 0u8; PIECE]?,
             copied: BTreeMap::new(alloc),
+            sources: BTreeMap::new(alloc),
             is_recursive,
         })
     }
@@ -61,8 +64,16 @@ impl Copying {
     fn note(&mut self, node: &Node, number: u32) -> Result<(), AllocError> {
         if self.is_recursive && node.links > 1 {
             let _before = self.copied.insert(node.number, number)?;
+            let _before = self.sources.insert(number, node.number)?;
         }
         Ok(())
+    }
+
+    /// Forgets a copy of which a name is taken by something else: it may have no other, so that it can't be linked.
+    pub fn forget(&mut self, number: u32) {
+        if let Some(source) = self.sources.remove(&number) {
+            let _number = self.copied.remove(&source);
+        }
     }
 }
 
@@ -139,7 +150,7 @@ fn copy_dense<S: FlushStore + Drop>(
     let head = read_piece(opened, alloc, copied, 0, &mut head)?;
     let begin = Begin {
         kind: Kind::File,
-        attributes: attributes_of(&copied.node),
+        attributes: attributes_of(opened, &copied.node),
         head: head_of(head),
     };
     let block = opened.make(alloc, copied.to, &begin)?;
@@ -166,7 +177,7 @@ fn copy_link<S: FlushStore + Drop>(
         directory: copied.place.folder,
         name: copied.place.name,
         kind: Kind::SymbolicLink,
-        attributes: attributes_of(&copied.node),
+        attributes: attributes_of(opened, &copied.node),
         bytes: &target,
         replace: true,
     };

@@ -59,7 +59,7 @@ fn copy_folder<S: FlushStore + Drop>(
     let mkdir = Mkdir {
         directory: copied.place.folder,
         name: copied.place.name,
-        attributes: attributes_of(&copied.node),
+        attributes: attributes_of(opened, &copied.node),
     };
     let number = opened.make_name(alloc, copied.to, &mkdir)?;
     Ok((number, true))
@@ -72,7 +72,9 @@ fn copy_other<S: FlushStore + Drop>(
     copying: &mut Copying,
     copied: &Copied,
 ) -> Result<(), Fault> {
-    let _other = replaced(opened, alloc, copied)?;
+    if let Some(other) = replaced(opened, alloc, copied)? {
+        copying.forget(other.number);
+    }
     copy_file(opened, alloc, copying, copied)
 }
 
@@ -174,8 +176,7 @@ fn copy_below<S: FlushStore + Drop>(
     into: Into,
 ) -> Result<(), Fault> {
     let length = copied.path.len();
-    let (view, told) = (&opened.session, &mut opened.told);
-    let mut walk = Walk::below(view, alloc, told, copied.path, copied.node.number)?;
+    let mut walk = Walk::below(alloc, copied.path, copied.node.number)?;
     let mut folders = Vec::from_array(alloc, [Some(into)])?;
     for _name in 0..u64::MAX {
         let Some(visit) = walk.next(&opened.session, alloc, &mut opened.told)? else {

@@ -19,7 +19,7 @@ fn make_folder<S: FlushStore + Drop>(
     let mkdir = Mkdir {
         directory: place.folder,
         name: place.name,
-        attributes: attributes_with(PERMISSIONS),
+        attributes: attributes_with(opened, PERMISSIONS),
     };
     let _number = opened.make_name(alloc, path.as_bytes(), &mkdir)?;
     Ok(())

@@ -1,7 +1,7 @@
 //! Words of `xnfs` that change a volume of trees: `mkdir`, `rmdir`, `rm`, `mv`, `ln`, `chmod`, `chown`, `touch`, `truncate`, and `cp` inside the volume.
 //!
 //! Of these functions it is proved that they are safe and end. That a file which is copied has its name only with all its bytes is what the calls of a session
-//! promise. No program stands on them yet.
+//! promise.
 //! May touch: memory.
 #![tactic(auto)]
 
@@ -16,7 +16,6 @@ mod naming;
 mod owners;
 mod removing;
 mod setting;
-mod sizes;
 mod sparse;
 mod times;
 
@@ -29,5 +28,4 @@ pub use naming::{Linking, link};
 pub use owners::Owners;
 pub use removing::{Removing, remove};
 pub use setting::{Setting, set_attributes};
-pub use sizes::read_size;
 pub use times::{touch, truncate};

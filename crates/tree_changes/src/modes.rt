@@ -104,7 +104,7 @@ fn read_clause(clause: &[u8]) -> Option<Clause> {
     })
 }
 
-/// Reads one to four octal digits, behind which there may be zeros before.
+/// Reads octal digits of permissions, with any zeros before them.
 fn read_octal(text: &str) -> Option<u16> {
     let bits = u16::from_str_radix(text, 8).ok()?;
     if bits < 0o10000 && !text.starts_with('+') {

@@ -59,7 +59,7 @@ fn link_symbolic<S: FlushStore + Drop>(
         directory: place.folder,
         name: place.name,
         kind: Kind::SymbolicLink,
-        attributes: attributes_with(PERMISSIONS),
+        attributes: attributes_with(opened, PERMISSIONS),
         bytes: target.as_bytes(),
         replace: false,
     };

@@ -78,8 +78,7 @@ fn empty_folder<S: FlushStore + Drop>(
     folder: u32,
 ) -> Result<bool, Fault> {
     let mut is_whole = true;
-    let (view, told) = (&opened.session, &mut opened.told);
-    let mut walk = Walk::below(view, alloc, told, path.as_bytes(), folder)?;
+    let mut walk = Walk::below(alloc, path.as_bytes(), folder)?;
     for _name in 0..u64::MAX {
         let (step, is_behind) = match walk.next(&opened.session, alloc, &mut opened.told)? {
             None => break,

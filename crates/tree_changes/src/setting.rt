@@ -62,8 +62,7 @@ fn set_below<S: FlushStore + Drop>(
     folder: u32,
     setting: &Setting,
 ) -> Result<(), Fault> {
-    let (view, told) = (&opened.session, &mut opened.told);
-    let mut walk = Walk::below(view, alloc, told, path.as_bytes(), folder)?;
+    let mut walk = Walk::below(alloc, path.as_bytes(), folder)?;
     for _name in 0..u64::MAX {
         let Some(step) = walk.next_met(&opened.session, alloc, &mut opened.told)? else {
             break;

@@ -147,7 +147,7 @@ pub fn copy_sparse<S: FlushStore + Drop>(
     let create = Create {
         directory: copied.place.folder,
         name: name.as_bytes(),
-        attributes: attributes_of(&copied.node),
+        attributes: attributes_of(opened, &copied.node),
     };
     let number = opened.make_name(alloc, copied.to, &create)?;
     let given = (number, name.as_str());

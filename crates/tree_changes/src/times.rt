@@ -22,7 +22,7 @@ fn create<S: FlushStore + Drop>(
     let create = Create {
         directory: place.folder,
         name: place.name,
-        attributes: attributes_with(PERMISSIONS),
+        attributes: attributes_with(opened, PERMISSIONS),
     };
     opened.make_name(alloc, path.as_bytes(), &create)
 }

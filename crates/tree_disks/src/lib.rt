@@ -1,6 +1,6 @@
 //! Disks in files that have a volume of trees: made with an empty one, found and opened.
 //!
-//! Of these functions it is proved that they are safe and end. No program stands on them yet.
+//! Of these functions it is proved that they are safe and end.
 //! May touch: memory, threads, files.
 #![tactic(auto)]
 

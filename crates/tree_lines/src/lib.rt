@@ -1,13 +1,12 @@
 //! What the words of `xnfs` on volumes of trees have in common: faults, how names are shown, what is asked of any volume, where paths lead, an open volume,
 //! and walks below a folder.
 //!
-//! Of these functions it is proved that they are safe and end. No program stands on them yet.
+//! Of these functions it is proved that they are safe and end.
 //! May touch: memory.
 #![tactic(auto)]
 
 mod counting;
 mod fault;
-mod first_volumes;
 mod marks;
 mod node;
 mod opened;
@@ -20,12 +19,13 @@ mod trees;
 mod view;
 mod walking;
 
+pub use counting::block_count;
 pub use fault::{Fault, at, at_bytes, at_word, not_written, system};
 pub use marks::{Mode, kind_mark};
 pub use node::{Named, Node, Stretch, Usage};
 pub use opened::Opened;
 pub use paths::{Goal, Place, TOP, find, find_to, last_name, own_name, place_of, there};
-pub use reason::{Reason, first_reason_of, naming_reason_of, path_reason_of, reason_of};
+pub use reason::{Reason, naming_reason_of, path_reason_of, reason_of, refusal_reason_of};
 pub use showing::{below, shown};
 pub use told::Told;
 pub use view::View;

@@ -61,8 +61,8 @@ fn volume_fault(system: &Option<SystemFault>, fault: TreeFault) -> Fault {
 }
 
 impl<S: FlushStore + Drop> Opened<S> {
-    /// Opens the volume of trees of a file system of a store, as `open` of a session does it. Where the disk is one in a file its faults are told by the system's
-    /// reason.
+    /// Opens the volume of trees of a file system of a store, as `open` of a session does it. Where the disk is one in a file its faults are told by the
+    /// system's reason.
     pub fn open(
         alloc: Global,
         store: S,
@@ -79,6 +79,12 @@ impl<S: FlushStore + Drop> Opened<S> {
             }),
             Err(fault) => Err(volume_fault(&system, fault)),
         }
+    }
+
+    /// What tells inodes that a line makes from earlier ones of their numbers: the last bits of its time.
+    pub fn generation(&self) -> u32 {
+        let time = self.session.volume().memory.clock.to_le_bytes();
+        u32::from_le_bytes([time[0], time[1], time[2], time[3]])
     }
 
     /// Whether nothing more can be done.

@@ -4,7 +4,6 @@ use std::alloc::{AllocError, AllocFailed};
 use store_types::Refusal;
 use thiserror::Error;
 use treefs_model::Fault as TreeFault;
-use xnfs_session::FfsFault;
 
 /// Why something can't be done at a path. Its text reads well behind the path.
 #[derive(Clone, Copy, Debug, PartialEq, Eq, Error)]
@@ -79,8 +78,8 @@ impl<T: Drop> From<AllocFailed<T>> for Reason {
     }
 }
 
-/// The reason of a refusal of the store.
-fn of_refusal(refusal: Refusal, free: u32) -> Reason {
+/// What a refusal of the store is at a path; so many blocks are free.
+pub fn refusal_reason_of(refusal: Refusal, free: u32) -> Reason {
     match refusal {
         Refusal::NoMemory => Reason::NoMemory,
         Refusal::NoSpace => Reason::NoSpace { free },
@@ -103,7 +102,7 @@ pub fn reason_of(fault: TreeFault, free: u32) -> Reason {
         TreeFault::NoSpace => Reason::NoSpace { free },
         TreeFault::Cycle => Reason::Cycle,
         TreeFault::Full => Reason::Full,
-        TreeFault::Kernel(refusal) => of_refusal(refusal, free),
+        TreeFault::Kernel(refusal) => refusal_reason_of(refusal, free),
     }
 }
 
@@ -121,22 +120,5 @@ pub fn path_reason_of(fault: TreeFault) -> Reason {
         TreeFault::Cycle => Reason::Loop,
         TreeFault::TooLarge => Reason::LongTarget,
         _ => reason_of(fault, 0),
-    }
-}
-
-/// What the fault of a look at a volume of the first file system is at a path.
-pub fn first_reason_of(fault: FfsFault) -> Reason {
-    match fault {
-        FfsFault::NoEntry => Reason::Missing,
-        FfsFault::Exists => Reason::There,
-        FfsFault::NotDir => Reason::NoFolder,
-        FfsFault::IsDir => Reason::Folder,
-        FfsFault::DirNotEmpty => Reason::NotEmpty,
-        FfsFault::BadName => Reason::BadName,
-        FfsFault::TooLarge => Reason::FileTooLarge,
-        FfsFault::NoInode => Reason::NoNumber,
-        FfsFault::Unsound(inode) => Reason::Unsound(inode),
-        FfsFault::Pending => Reason::Pending,
-        FfsFault::Kernel(refusal) => of_refusal(refusal, 0),
     }
 }

@@ -36,14 +36,17 @@ struct Frame {
     folder: u32,
     /// How it was met; nothing of the folder where the walk began.
     step: Option<Step>,
-    /// The names that are still to be met, the last one first.
+    /// Whether its names were read.
+    is_read: bool,
+    /// Those of them that are still to be met, the last one first.
     waiting: Vec<Named>,
     /// How many bytes its path has.
     length: usize,
 }
 
 /// A walk below a folder, in rising order, each folder before what is in it. It keeps the names of the folders in which it is, and no others; so what it
-/// comes to may be changed between two steps. A folder that is met a second time, which no sound volume has, is told and left out.
+/// comes to may be changed between two steps. The names of a folder are read when the first of them is asked for. A folder that is met a second time, which no
+/// sound volume has, is told and left out.
 #[derive(Debug, Drop)]
 pub struct Walk {
     frames: Vec<Frame>,
@@ -81,17 +84,12 @@ fn push_name(path: &mut Vec<u8>, name: &[u8]) -> Result<(), AllocError> {
 
 impl Walk {
     /// A walk below the folder of a number, by whose path all is told.
-    pub fn below<V: View>(
-        view: &V,
-        alloc: Global,
-        told: &mut Told,
-        path: &[u8],
-        folder: u32,
-    ) -> Result<Walk, Fault> {
+    pub fn below(alloc: Global, path: &[u8], folder: u32) -> Result<Walk, AllocError> {
         let frame = Frame {
             folder,
             step: None,
-            waiting: waiting_of(view, alloc, told, path, folder)?,
+            is_read: false,
+            waiting: Vec::new(alloc),
             length: path.len(),
         };
         let mut seen = BTreeSet::new(alloc);
@@ -111,18 +109,13 @@ impl Walk {
     /// Leaves out what is in the folder that was met last.
     pub fn pass_over(&mut self) {
         if let Some(frame) = self.frames.last_mut() {
+            frame.is_read = true;
             frame.waiting.clear();
         }
     }
 
     /// Goes into a folder that was just met.
-    fn enter<V: View>(
-        &mut self,
-        view: &V,
-        alloc: Global,
-        told: &mut Told,
-        step: &Step,
-    ) -> Result<(), Fault> {
+    fn enter(&mut self, alloc: Global, step: &Step) -> Result<(), AllocError> {
         let (depth, folder) = (step.depth, step.folder);
         let name = Vec::from_slice(alloc, &step.name)?;
         let node = step.node;
@@ -134,7 +127,8 @@ impl Walk {
                 name,
                 node,
             }),
-            waiting: waiting_of(view, alloc, told, &self.path, node.number)?,
+            is_read: false,
+            waiting: Vec::new(alloc),
             length: self.path.len(),
         })?;
         Ok(())
@@ -166,7 +160,7 @@ impl Walk {
                     node,
                 };
                 if node.is_folder() {
-                    self.enter(view, alloc, told, &step)?;
+                    self.enter(alloc, &step)?;
                 }
                 Ok(Some(step))
             }
@@ -174,6 +168,27 @@ impl Walk {
                 told.go_on(Err(at_bytes(alloc, &self.path, reason)))?;
                 Ok(None)
             }
+        }
+    }
+
+    /// The next name of the folder in which the walk is, with the number of that folder.
+    fn next_name<V: View>(
+        &mut self,
+        view: &V,
+        alloc: Global,
+        told: &mut Told,
+    ) -> Result<Option<(u32, Named)>, Fault> {
+        let Some(frame) = self.frames.last_mut() else {
+            return Ok(None);
+        };
+        self.path.truncate(frame.length);
+        if !frame.is_read {
+            frame.is_read = true;
+            frame.waiting = waiting_of(view, alloc, told, &self.path, frame.folder)?;
+        }
+        match frame.waiting.pop() {
+            Some(name) => Ok(Some((frame.folder, name))),
+            None => Ok(None),
         }
     }
 
@@ -185,12 +200,7 @@ impl Walk {
         told: &mut Told,
     ) -> Result<Option<Visit>, Fault> {
         for _name in 0..u64::MAX {
-            let Some(frame) = self.frames.last_mut() else {
-                break;
-            };
-            let folder = frame.folder;
-            self.path.truncate(frame.length);
-            let Some(named) = frame.waiting.pop() else {
+            let Some((folder, named)) = self.next_name(view, alloc, told)? else {
                 return Ok(self.leave());
             };
             if let Some(step) = self.meet(view, alloc, told, folder, named)? {
@@ -222,6 +232,7 @@ impl Walk {
         let Frame {
             folder: _,
             step,
+            is_read: _,
             waiting: _,
             length: _,
         } = self.frames.pop()?;

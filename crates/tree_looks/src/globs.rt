@@ -114,14 +114,23 @@ impl Part {
         }
     }
 
-    /// Where this part may end in a name, by where it may begin.
-    fn ends(&self, alloc: Global, name: &[u8], begins: &[bool]) -> Result<Vec<bool>, AllocError> {
+    /// Where this part may end in a name, by where it may begin, and by where its characters begin and it ends.
+    fn ends(
+        &self,
+        alloc: Global,
+        name: &[u8],
+        begins: &[bool],
+        borders: &[bool],
+    ) -> Result<Vec<bool>, AllocError> {
         let mut ends = vec![in alloc; false; name.len().saturating_add(1)]?;
         let mut is_passed = false;
         for (at, begin) in begins.iter().enumerate() {
             is_passed = is_passed || *begin;
             match self {
-                Part::Any => set_end(&mut ends, at, is_passed),
+                Part::Any => {
+                    let is_border = borders.get(at) == Some(&true);
+                    set_end(&mut ends, at, is_passed && is_border);
+                }
                 _ if *begin && at < name.len() => {
                     let (found, length) = first_char(&name[at..]);
                     set_end(&mut ends, at.saturating_add(length), self.takes(found));
@@ -142,6 +151,22 @@ fn set_end(ends: &mut [bool], at: usize, is_end: bool) {
     }
 }
 
+/// Where the characters of a name begin, and where it ends.
+fn borders_of(alloc: Global, name: &[u8]) -> Result<Vec<bool>, AllocError> {
+    let mut borders = vec![in alloc; false; name.len().saturating_add(1)]?;
+    let mut next = 0usize;
+    for at in 0..name.len() {
+        if at < next {
+            continue;
+        }
+        set_end(&mut borders, at, true);
+        let (_found, length) = first_char(&name[at..]);
+        next = at.saturating_add(length);
+    }
+    set_end(&mut borders, name.len(), true);
+    Ok(borders)
+}
+
 impl Glob {
     /// Reads a pattern. `Err` comes only for want of memory.
     pub fn read(alloc: Global, pattern: &str) -> Result<Glob, AllocError> {
@@ -160,10 +185,11 @@ impl Glob {
 
     /// Whether a name is as the pattern says. `Err` comes only for want of memory.
     pub fn fits(&self, alloc: Global, name: &[u8]) -> Result<bool, AllocError> {
+        let borders = borders_of(alloc, name)?;
         let mut places = vec![in alloc; false; name.len().saturating_add(1)]?;
         set_end(&mut places, 0, true);
         for part in self.parts.iter() {
-            places = part.ends(alloc, name, &places)?;
+            places = part.ends(alloc, name, &places, &borders)?;
         }
         Ok(places.get(name.len()) == Some(&true))
     }

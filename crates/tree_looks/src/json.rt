@@ -66,11 +66,26 @@ impl Members {
         }
     }
 
-    /// The object as text.
+    /// The object as text, in which no control character stands as it is.
     pub fn into_text(self) -> Result<String, AllocError> {
         let Members { alloc, members } = self;
-        Value::Object(members).to_string(alloc)
+        let text = Value::Object(members).to_string(alloc)?;
+        without_controls(alloc, &text)
     }
+}
+
+/// A text of JSON with each control character as `\u009b`: it stands in a string, where that means the same.
+fn without_controls(alloc: Global, text: &str) -> Result<String, AllocError> {
+    let mut plain = String::new(alloc);
+    for c in text.chars() {
+        if c.is_control() {
+            let code = u32::from(c);
+            plain.push_str(&format!(in alloc; "\\u{code:04x}")?)?;
+        } else {
+            plain.push(c)?;
+        }
+    }
+    Ok(plain)
 }
 
 /// A list of JSON that is being printed, value by value.

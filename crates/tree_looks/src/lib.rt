@@ -1,7 +1,7 @@
 //! Words of `xnfs` that look at a volume, of trees or of the first file system: `ls`, `tree`, `cat`, `stat`, `readlink`, `find`, `du`, `df`, and what `check`
 //! prints of a volume of trees.
 //!
-//! Of these functions it is proved that they are safe and end. No program stands on them yet.
+//! Of these functions it is proved that they are safe and end.
 //! May touch: memory, streams.
 #![tactic(auto)]
 

@@ -96,7 +96,7 @@ fn print_below<V: View>(
     how: Listing,
     out: &mut impl Write,
 ) -> Result<(), Fault> {
-    let mut walk = Walk::below(view, alloc, told, top.path, top.folder)?;
+    let mut walk = Walk::below(alloc, top.path, top.folder)?;
     for _name in 0..u64::MAX {
         let Some(step) = walk.next_met(view, alloc, told)? else {
             break;
@@ -154,7 +154,7 @@ fn print_objects<V: View>(
     items: &mut Items,
     out: &mut impl Write,
 ) -> Result<(), Fault> {
-    let mut walk = Walk::below(view, alloc, told, listed.path, listed.folder)?;
+    let mut walk = Walk::below(alloc, listed.path, listed.folder)?;
     for _name in 0..u64::MAX {
         let Some(step) = walk.next_met(view, alloc, told)? else {
             break;

@@ -102,7 +102,7 @@ fn measure_one<V: View>(
     measure.sums.clear();
     measure.sums.push(own)?;
     if node.is_folder() {
-        let mut walk = Walk::below(view, alloc, told, path, node.number)?;
+        let mut walk = Walk::below(alloc, path, node.number)?;
         for _name in 0..u64::MAX {
             match walk.next(view, alloc, told)? {
                 None => break,

@@ -65,7 +65,7 @@ fn search_one<V: View>(
     if !node.is_folder() {
         return Ok(());
     }
-    let mut walk = Walk::below(view, alloc, told, path, node.number)?;
+    let mut walk = Walk::below(alloc, path, node.number)?;
     for _name in 0..u64::MAX {
         let Some(step) = walk.next_met(view, alloc, told)? else {
             break;

@@ -43,18 +43,19 @@ fn find_held<V: View>(
     }
 }
 
-/// Prints what stands at a path.
+/// Prints what stands at a path, behind an empty line where something was printed before.
 fn print_one<V: View>(
     view: &V,
     alloc: Global,
     (folder, path): (u32, &str),
-    is_first: bool,
+    is_first: &mut bool,
     out: &mut impl Write,
 ) -> Result<(), Fault> {
     let (node, blocks) = find_held(view, alloc, folder, path)?;
-    if !is_first {
+    if !*is_first {
         writeln!(out, "")?;
     }
+    *is_first = false;
     let shown_path = shown(alloc, path.as_bytes())?;
     writeln!(out, "path: {shown_path}")?;
     print_node(&node, blocks, out)?;
@@ -95,8 +96,9 @@ pub fn stat<V: View>(
     out: &mut impl Write,
 ) -> Result<(), Fault> {
     if !is_json {
-        for (place, path) in paths.iter().enumerate() {
-            let done = print_one(view, alloc, (folder, path), place == 0, out);
+        let mut is_first = true;
+        for path in paths {
+            let done = print_one(view, alloc, (folder, path), &mut is_first, out);
             told.go_on(done)?;
         }
         return Ok(());

@@ -17,7 +17,7 @@ pub fn tree<V: View>(
     if !node.is_folder() {
         return Err(at(alloc, path, Reason::NoFolder));
     }
-    let mut walk = Walk::below(view, alloc, told, path.as_bytes(), node.number)?;
+    let mut walk = Walk::below(alloc, path.as_bytes(), node.number)?;
     for _name in 0..u64::MAX {
         let Some(step) = walk.next_met(view, alloc, told)? else {
             break;

@@ -8,7 +8,7 @@ use flush_store::FlushStore;
 use host_trees::{Attributes as HostAttributes, Host};
 use std::alloc::{AllocError, Global};
 use std::collections::BTreeMap;
-use tree_lines::{Fault, Opened, Place, Reason, at_bytes, system};
+use tree_lines::{Fault, Opened, Place, Reason, at_bytes, system, there};
 use treefs::Attributes;
 use treefs_byte_plans::{Attributes as Settings, Owner};
 use treefs_format::Kind;
@@ -29,9 +29,9 @@ pub struct Arriving<'a, H: Host, S: FlushStore + Drop> {
     /// The file of the system that is the disk itself.
     pub disk: Option<HostAttributes>,
     /// The numbers of files of the system with several names, by device and inode.
-    pub linked: BTreeMap<(u64, u64), u32>,
-    /// What tells new inodes from earlier ones of their numbers.
-    generation: u32,
+    linked: BTreeMap<(u64, u64), u32>,
+    /// Their devices and inodes, by these numbers.
+    sources: BTreeMap<u32, (u64, u64)>,
 }
 
 impl<'a, H: Host, S: FlushStore + Drop> Drop for Arriving<'a, H, S> {
@@ -43,7 +43,7 @@ impl<'a, H: Host, S: FlushStore + Drop> Drop for Arriving<'a, H, S> {
             progress: _,
             disk: _,
             linked: _,
-            generation: _,
+            sources: _,
         } = self;
     }
 }
@@ -58,12 +58,6 @@ pub struct Goods<'g> {
     pub attributes: &'g HostAttributes,
 }
 
-/// What tells inodes of this line from others: the last bits of its time.
-fn generation_of(time: i64) -> u32 {
-    let time = time.to_le_bytes();
-    u32::from_le_bytes([time[0], time[1], time[2], time[3]])
-}
-
 impl<'a, H: Host, S: FlushStore + Drop> Arriving<'a, H, S> {
     /// Nothing is brought in yet.
     pub fn begin(
@@ -72,7 +66,6 @@ impl<'a, H: Host, S: FlushStore + Drop> Arriving<'a, H, S> {
         alloc: Global,
         disk: Option<HostAttributes>,
     ) -> Arriving<'a, H, S> {
-        let generation = generation_of(volume.session.volume().memory.clock);
         Arriving {
             host,
             volume,
@@ -80,7 +73,7 @@ impl<'a, H: Host, S: FlushStore + Drop> Arriving<'a, H, S> {
             progress: Progress::begin(host),
             disk,
             linked: BTreeMap::new(alloc),
-            generation,
+            sources: BTreeMap::new(alloc),
         }
     }
 
@@ -93,9 +86,36 @@ impl<'a, H: Host, S: FlushStore + Drop> Arriving<'a, H, S> {
             progress,
             disk: _,
             linked: _,
-            generation: _,
+            sources: _,
         } = self;
         progress.end(host);
+    }
+
+    /// The number under which a file of the system was put that has several names, if it was.
+    pub fn number_of(&self, told: &HostAttributes) -> Option<u32> {
+        self.linked.get(&(told.device, told.inode)).copied()
+    }
+
+    /// Keeps the number under which a file of the system was put, to link it where another of its names is met.
+    pub fn note(&mut self, told: &HostAttributes, number: u32) -> Result<(), AllocError> {
+        if told.links > 1 {
+            let source = (told.device, told.inode);
+            let _before = self.linked.insert(source, number)?;
+            let _before = self.sources.insert(number, source)?;
+        }
+        Ok(())
+    }
+
+    /// Forgets what has the name of a place, where something else takes that: it may have no other, so that it can't be linked.
+    pub fn forget(&mut self, place: Place) {
+        if self.linked.is_empty() {
+            return;
+        }
+        if let Ok(Some(node)) = there(&self.volume.session, place)
+            && let Some(source) = self.sources.remove(&node.number)
+        {
+            let _number = self.linked.remove(&source);
+        }
     }
 
     /// What a new inode gets of what the system tells of a file.
@@ -106,7 +126,7 @@ impl<'a, H: Host, S: FlushStore + Drop> Arriving<'a, H, S> {
             permissions: told.permissions,
             uid: told.uid,
             gid: told.gid,
-            generation: self.generation,
+            generation: self.volume.generation(),
         }
     }
 
@@ -232,6 +252,7 @@ impl<'a, H: Host, S: FlushStore + Drop> Arriving<'a, H, S> {
         piece: &mut [u8],
     ) -> Result<u32, Fault> {
         self.want_space(goods)?;
+        self.forget(goods.place);
         let count = match read_piece(self.host, incoming, piece) {
             Ok(count) => count,
             Err(error) => return Err(system(self.alloc, goods.source.as_bytes(), error)),
@@ -246,14 +267,15 @@ impl<'a, H: Host, S: FlushStore + Drop> Arriving<'a, H, S> {
         Ok(number)
     }
 
-    /// Puts a symbolic link in the place of what has the name.
+    /// Puts a symbolic link in the place of what has the name, with its time.
     pub fn put_link(&mut self, goods: Goods) -> Result<(), Fault> {
         let target = match self.host.target(goods.source) {
             Ok(target) => target,
             Err(error) => return Err(system(self.alloc, goods.source.as_bytes(), error)),
         };
-        let _number = self.put_whole(goods, Kind::SymbolicLink, target.as_bytes())?;
-        Ok(())
+        self.forget(goods.place);
+        let number = self.put_whole(goods, Kind::SymbolicLink, target.as_bytes())?;
+        self.set_time(goods.path, number, goods.attributes.modified)
     }
 }
 

@@ -24,6 +24,8 @@ pub struct Leaving<'v, V: View, H: Host> {
     piece: Vec<u8>,
     /// Where files with several names were brought to, by their numbers.
     linked: BTreeMap<u32, String>,
+    /// Their numbers, by where they were brought to.
+    numbers: BTreeMap<String, u32>,
 }
 
 impl<'v, V: View, H: Host> Drop for Leaving<'v, V, H> {
@@ -37,6 +39,7 @@ impl<'v, V: View, H: Host> Drop for Leaving<'v, V, H> {
             progress: _,
             piece: _,
             linked: _,
+            numbers: _,
         } = self;
     }
 }
@@ -59,6 +62,7 @@ impl<'v, V: View, H: Host> Leaving<'v, V, H> {
             progress: Progress::begin(host),
             piece: vec![in alloc; 0u8; PIECE]?,
             linked: BTreeMap::new(alloc),
+            numbers: BTreeMap::new(alloc),
         })
     }
 
@@ -73,6 +77,7 @@ impl<'v, V: View, H: Host> Leaving<'v, V, H> {
             progress,
             piece: _,
             linked: _,
+            numbers: _,
         } = self;
         progress.end(host);
     }
@@ -150,6 +155,22 @@ impl<'v, V: View, H: Host> Leaving<'v, V, H> {
         }
     }
 
+    /// Keeps where a file was brought to, to link it where another of its names is met.
+    fn note(&mut self, node: &Node, target: &str) -> Result<(), AllocError> {
+        let path = String::from_str(self.alloc, target)?;
+        let _before = self.linked.insert(node.number, path)?;
+        let path = String::from_str(self.alloc, target)?;
+        let _before = self.numbers.insert(path, node.number)?;
+        Ok(())
+    }
+
+    /// Forgets the file that was brought to a path, where something else takes that: what stands there then is no name of it.
+    fn forget(&mut self, target: &str) {
+        if let Some(number) = self.numbers.remove(target) {
+            let _path = self.linked.remove(&number);
+        }
+    }
+
     /// Brings a file out that has several names.
     fn bring_linked(
         &mut self,
@@ -169,8 +190,7 @@ impl<'v, V: View, H: Host> Leaving<'v, V, H> {
             return Ok(());
         }
         self.write(node, path, target, links)?;
-        let target = String::from_str(alloc, target)?;
-        let _old = self.linked.insert(node.number, target)?;
+        self.note(node, target)?;
         Ok(())
     }
 
@@ -182,6 +202,7 @@ impl<'v, V: View, H: Host> Leaving<'v, V, H> {
         target: &str,
         links: Links,
     ) -> Result<(), Fault> {
+        self.forget(target);
         if node.links > 1 {
             self.bring_linked(node, path, target, links)?;
         } else {

@@ -1,6 +1,6 @@
 //! Files and folders that are brought from the system into a volume of trees, and from any volume out to the system.
 //!
-//! Of these functions it is proved that they are safe and end. No program stands on them yet.
+//! Of these functions it is proved that they are safe and end.
 //! May touch: memory, files, streams, clock.
 #![tactic(auto)]
 

@@ -111,6 +111,9 @@ pub fn link<H: Host, S: FlushStore + Drop>(
         Some(node) if node.is_folder() => {
             Err(at_bytes(arriving.alloc, goods.path, Reason::Folder))
         }
-        Some(_) => link_over(arriving, goods, number),
+        Some(_) => {
+            arriving.forget(goods.place);
+            link_over(arriving, goods, number)
+        }
     }
 }

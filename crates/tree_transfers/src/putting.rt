@@ -8,7 +8,7 @@ use flush_store::FlushStore;
 use host_trees::{Attributes, Host, Kind};
 use std::alloc::Global;
 use std::io::Read;
-use tree_lines::{Fault, Goal, Opened, Reason, at, below, find_to, place_of, system};
+use tree_lines::{Fault, Goal, Opened, Reason, at, below, find_to, system};
 
 /// The permissions of a file that standard input becomes.
 const PERMISSIONS: u16 = 0o644;
@@ -62,10 +62,13 @@ fn put_stream<H: Host, S: FlushStore + Drop>(
         return Err(at(alloc, "-", Reason::Lines));
     }
     let folder = arriving.volume.folder;
-    let place = place_of(&arriving.volume.session, alloc, folder, putting.path)?;
-    if place.has_slash {
-        return Err(at(alloc, putting.path, Reason::NoFolder));
-    }
+    let place = match find_to(&arriving.volume.session, alloc, folder, putting.path, false)? {
+        Goal::Into(_) => return Err(at(alloc, putting.path, Reason::Folder)),
+        Goal::To(place) if place.has_slash => {
+            return Err(at(alloc, putting.path, Reason::NoFolder));
+        }
+        Goal::To(place) => place,
+    };
     let attributes = stream_attributes(arriving.host);
     let goods = Goods {
         place,
@@ -179,6 +182,10 @@ fn put_all<H: Host, S: FlushStore + Drop>(
     input: &mut impl Read,
 ) -> Result<(), Fault> {
     let mut piece = room_for_piece(arriving.alloc)?;
+    if putting.sources.len() > 1 {
+        let (folder, path) = (arriving.volume.folder, putting.path);
+        let _goal = find_to(&arriving.volume.session, arriving.alloc, folder, path, true)?;
+    }
     for source in putting.sources {
         let done = if *source == "-" {
             put_stream(arriving, putting, &mut piece, input)

@@ -1,5 +1,5 @@
-// Files with holes are put. What was begun and has no name yet is written at its end alone, so such a file has a name beside its place until it is whole; then it
-// is moved there.
+// Files with holes are put. What was begun and has no name yet is written at its end alone, so such a file has a name beside its place until it is whole;
+// then it is moved there.
 
 use crate::arriving::{Arriving, Goods};
 use crate::linking::{free_name, move_to_place, take_back};
@@ -101,6 +101,7 @@ pub fn put_sparse<H: Host, S: FlushStore + Drop, I: Incoming<H>>(
     piece: &mut [u8],
 ) -> Result<u32, Fault> {
     arriving.want_space(goods)?;
+    arriving.forget(goods.place);
     let name = free_name(arriving, goods)?;
     let attributes = arriving.new_attributes(goods.attributes);
     let create = Create {

@@ -144,8 +144,7 @@ pub fn is_done<H: Host, S: FlushStore + Drop>(
             "is the disk itself, and is left out",
         ));
     }
-    let key = (goods.attributes.device, goods.attributes.inode);
-    match arriving.linked.get(&key).copied() {
+    match arriving.number_of(goods.attributes) {
         Some(number) => {
             link(arriving, goods, number)?;
             Ok(true)
@@ -167,10 +166,7 @@ pub fn put_regular<H: Host, S: FlushStore + Drop>(
     } else {
         arriving.put_file(goods, &mut incoming, piece)?
     };
-    if goods.attributes.links > 1 {
-        let key = (goods.attributes.device, goods.attributes.inode);
-        let _old = arriving.linked.insert(key, number)?;
-    }
+    arriving.note(goods.attributes, number)?;
     arriving.set_time(goods.path, number, goods.attributes.modified)
 }
 

@@ -37,14 +37,25 @@ pub fn told_name<V: View, H: Host>(
     }
 }
 
+/// Makes a folder of the system where none is. It has the permissions that the system gives, unless others are set once it is full: then nobody but its owner
+/// may enter it until then.
+fn make_missing<V: View, H: Host>(leaving: &Leaving<V, H>, target: &str) -> Result<(), Fault> {
+    let made = if leaving.keeps_attributes {
+        leaving.host.make_folder(target)
+    } else {
+        leaving.host.make_folders(target)
+    };
+    match made {
+        Ok(()) => Ok(()),
+        Err(error) => Err(system(leaving.alloc, target.as_bytes(), error)),
+    }
+}
+
 /// Makes a folder of the system, which may be there, but not as a link to one.
 pub fn make_folder<V: View, H: Host>(leaving: &Leaving<V, H>, target: &str) -> Result<(), Fault> {
     let alloc = leaving.alloc;
     match leaving.attributes_at(target)? {
-        None => match leaving.host.make_folder(target) {
-            Ok(()) => Ok(()),
-            Err(error) => Err(system(alloc, target.as_bytes(), error)),
-        },
+        None => make_missing(leaving, target),
         Some(there) => match there.kind {
             Kind::Folder => Ok(()),
             Kind::SymbolicLink => Err(not_written(alloc, target.as_bytes(), WriteFault::Link)),
@@ -177,7 +188,7 @@ pub fn fill_folder<V: View, H: Host>(
         target: String::from_str(alloc, target)?,
         settings,
     }))?;
-    let mut walk = Walk::below(leaving.view, alloc, leaving.told, path, node.number)?;
+    let mut walk = Walk::below(alloc, path, node.number)?;
     bring_all(leaving, &mut folders, &mut walk)?;
     if let Some(Some(folder)) = folders.folders.pop() {
         settle(leaving, folder)?;

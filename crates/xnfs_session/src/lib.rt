@@ -1,4 +1,4 @@
-//! A volume of the library file system, open over a store that is flushed: what `xnfs` makes its calls of.
+//! A volume of the first library file system, open over a store that is flushed; and lanes for tests, which stop after so many writes.
 //!
 //! It is proved of each session that the rules of its volume hold, whatever its calls answer: so names are good in every image that a
 //! crash may leave; and that each of its calls does what the same call of a volume does (`ffs_lib`).

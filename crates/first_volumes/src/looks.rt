@@ -1,14 +1,12 @@
-// An open volume of the first file system is looked at: its permissions, owners and times are made up, as it has none.
+// An open volume of the first library file system is looked at: its permissions, owners and times are made up, as it has none.
 
-use crate::counting::block_count;
-use crate::node::{Named, Node, Stretch, Usage};
-use crate::paths::TOP;
-use crate::reason::{Reason, first_reason_of};
-use crate::view::View;
+use crate::reasons::seen;
+use crate::volume::FirstVolume;
 use flush_store::FlushStore;
 use std::alloc::Global;
+use tree_lines::{Named, Node, Reason, Stretch, TOP, Usage, View, block_count};
 use treefs_format::Kind;
-use xnfs_session::{FfsFault, MOST_BYTES, MOST_INODES, Session};
+use xnfs_session::{MOST_BYTES, MOST_INODES, Session};
 
 /// How many bytes a name has there at most.
 const NAME_LEN: u32 = 28;
@@ -18,14 +16,6 @@ const OWN_BLOCKS: u64 = 12;
 
 /// How many bytes a block has.
 const BLOCK_LEN: u64 = 512;
-
-/// What a look answers, with its fault as a reason.
-fn seen<A: Drop>(answer: Result<A, FfsFault>) -> Result<A, Reason> {
-    match answer {
-        Ok(answer) => Ok(answer),
-        Err(fault) => Err(first_reason_of(fault)),
-    }
-}
 
 /// The inode of a number; none has a greater one.
 fn inode_of(number: u32) -> Result<u16, Reason> {
@@ -127,19 +117,19 @@ fn step_of<S: FlushStore + Drop>(
     Ok(u32::from(inode))
 }
 
-impl<S: FlushStore + Drop> View for Session<S> {
+impl<S: FlushStore + Drop> View for FirstVolume<S> {
     fn node(&self, number: u32) -> Result<Node, Reason> {
-        node_of(self, number)
+        node_of(&self.session, number)
     }
 
     fn look_up(&self, folder: u32, name: &[u8]) -> Result<u32, Reason> {
-        let inode = seen(Session::look_up(self, inode_of(folder)?, name))?;
+        let inode = seen(self.session.look_up(inode_of(folder)?, name))?;
         Ok(u32::from(inode))
     }
 
     fn names(&self, alloc: Global, folder: u32) -> Result<Vec<Named>, Reason> {
         let mut names = Vec::new(alloc);
-        for (name, inode) in listed(self, alloc, folder)? {
+        for (name, inode) in listed(&self.session, alloc, folder)? {
             names.push(Named {
                 name,
                 number: u32::from(inode),
@@ -150,23 +140,27 @@ impl<S: FlushStore + Drop> View for Session<S> {
     }
 
     fn read(&self, number: u32, at: u64, bytes: &mut [u8]) -> Result<usize, Reason> {
-        let file = file_of(self, number)?;
+        let file = file_of(&self.session, number)?;
         match u32::try_from(at) {
             Ok(at) if u64::from(at) < file.size => seen(
-                self.volume()
-                    .read(self.store(), inode_of(number)?, at, bytes),
+                self.session
+                    .volume()
+                    .read(self.session.store(), inode_of(number)?, at, bytes),
             ),
             _ => Ok(0),
         }
     }
 
     fn target(&self, _alloc: Global, number: u32) -> Result<Vec<u8>, Reason> {
-        let _node = node_of(self, number)?;
+        let _node = node_of(&self.session, number)?;
         Err(Reason::NoLink)
     }
 
     fn stretch(&self, number: u32, at: u64, most: u64) -> Result<Option<Stretch>, Reason> {
-        let length = file_of(self, number)?.size.saturating_sub(at).min(most);
+        let length = file_of(&self.session, number)?
+            .size
+            .saturating_sub(at)
+            .min(most);
         Ok(if length == 0 {
             None
         } else {
@@ -175,7 +169,7 @@ impl<S: FlushStore + Drop> View for Session<S> {
     }
 
     fn blocks_held(&self, number: u32) -> Result<u64, Reason> {
-        let blocks = node_of(self, number)?.size.div_ceil(BLOCK_LEN);
+        let blocks = node_of(&self.session, number)?.size.div_ceil(BLOCK_LEN);
         Ok(if blocks > OWN_BLOCKS {
             blocks.saturating_add(1)
         } else {
@@ -196,16 +190,16 @@ impl<S: FlushStore + Drop> View for Session<S> {
             folder
         };
         for name in path.split(|byte| *byte == b'/') {
-            number = step_of(self, alloc, number, name)?;
+            number = step_of(&self.session, alloc, number, name)?;
         }
         Ok(number)
     }
 
     fn usage(&self) -> Usage {
-        let usage = Session::usage(self);
+        let usage = self.session.usage();
         Usage {
             free_blocks: usage.free_blocks,
-            blocks: block_count(self.store(), self.fs()),
+            blocks: block_count(self.session.store(), self.session.fs()),
             numbers: Some((u32::from(usage.used_inodes), u32::from(MOST_INODES))),
             longest_name: NAME_LEN,
             largest_file: u64::from(MOST_BYTES),
