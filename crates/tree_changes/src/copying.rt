@@ -167,7 +167,7 @@ fn leave_folder<S: FlushStore + Drop>(
     }
 }
 
-/// Copies all below a folder into another one.
+/// Copies all below a folder into another one. That one is left out: it stands below the first one in no sound volume.
 fn copy_below<S: FlushStore + Drop>(
     opened: &mut Opened<S>,
     alloc: Global,
@@ -177,6 +177,7 @@ fn copy_below<S: FlushStore + Drop>(
 ) -> Result<(), Fault> {
     let length = copied.path.len();
     let mut walk = Walk::below(alloc, copied.path, copied.node.number)?;
+    walk.leave_out(into.number)?;
     let mut folders = Vec::from_array(alloc, [Some(into)])?;
     for _name in 0..u64::MAX {
         let Some(visit) = walk.next(&opened.session, alloc, &mut opened.told)? else {

@@ -70,6 +70,23 @@ fn remove_step<S: FlushStore + Drop>(
     }
 }
 
+/// What a walk comes to, and whether it was behind all in it; and whether something on the way there could not be seen, which is told.
+fn next_step<S: FlushStore + Drop>(
+    opened: &mut Opened<S>,
+    alloc: Global,
+    walk: &mut Walk,
+) -> Result<(Option<(Step, bool)>, bool), Fault> {
+    let before = opened.told.count();
+    let visit = walk.next(&opened.session, alloc, &mut opened.told)?;
+    let is_unseen = opened.told.count() > before;
+    let step = match visit {
+        None => None,
+        Some(Visit::Met(step)) => Some((step, false)),
+        Some(Visit::Left(step)) => Some((step, true)),
+    };
+    Ok((step, is_unseen))
+}
+
 /// Removes all below a folder, and answers whether nothing is left. Faults are told.
 fn empty_folder<S: FlushStore + Drop>(
     opened: &mut Opened<S>,
@@ -80,10 +97,10 @@ fn empty_folder<S: FlushStore + Drop>(
     let mut is_whole = true;
     let mut walk = Walk::below(alloc, path.as_bytes(), folder)?;
     for _name in 0..u64::MAX {
-        let (step, is_behind) = match walk.next(&opened.session, alloc, &mut opened.told)? {
-            None => break,
-            Some(Visit::Met(step)) => (step, false),
-            Some(Visit::Left(step)) => (step, true),
+        let (step, is_unseen) = next_step(opened, alloc, &mut walk)?;
+        is_whole = is_whole && !is_unseen;
+        let Some((step, is_behind)) = step else {
+            break;
         };
         if step.node.is_folder() && !is_behind {
             continue;

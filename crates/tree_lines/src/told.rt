@@ -46,6 +46,11 @@ impl Told {
         }
     }
 
+    /// How many faults there are so far.
+    pub fn count(&self) -> u64 {
+        self.more.saturating_add(self.faults.len() as u64)
+    }
+
     /// Whether nothing is to be told.
     pub fn is_empty(&self) -> bool {
         self.faults.is_empty()

@@ -101,6 +101,12 @@ impl Walk {
         })
     }
 
+    /// Leaves a folder out, by its number, wherever it is met: it is told as one that is met a second time.
+    pub fn leave_out(&mut self, folder: u32) -> Result<(), AllocError> {
+        let _is_new = self.seen.insert(folder)?;
+        Ok(())
+    }
+
     /// The path of what was met or left last.
     pub fn path(&self) -> &[u8] {
         &self.path

@@ -5,7 +5,7 @@ use crate::json::Items;
 use crate::rows::{Row, is_hidden, print_rows, rows_of};
 use std::alloc::Global;
 use std::io::Write;
-use tree_lines::{Fault, Node, Told, View, Walk, below, find, last_name, shown};
+use tree_lines::{Fault, Node, Reason, Told, View, Walk, below, find, last_name, shown};
 
 /// How a folder is listed.
 #[derive(Clone, Copy, Debug)]
@@ -87,6 +87,27 @@ fn print_folder<V: View>(
     }
 }
 
+/// Tells of the faults of a walk those that the lists of its folders don't tell: folders with two names.
+fn tell_walked(alloc: Global, told: &mut Told, walked: &mut Told) -> Result<(), Fault> {
+    for fault in walked.take(alloc) {
+        if is_of_two_names(&fault) {
+            told.tell(fault)?;
+        }
+    }
+    Ok(())
+}
+
+/// Whether a fault is that of a folder with two names.
+fn is_of_two_names(fault: &Fault) -> bool {
+    matches!(
+        fault,
+        Fault::At {
+            path: _,
+            reason: Reason::TwoNames
+        }
+    )
+}
+
 /// Prints the names of all folders below one.
 fn print_below<V: View>(
     view: &V,
@@ -97,8 +118,11 @@ fn print_below<V: View>(
     out: &mut impl Write,
 ) -> Result<(), Fault> {
     let mut walk = Walk::below(alloc, top.path, top.folder)?;
+    let mut walked = Told::nothing(alloc);
     for _name in 0..u64::MAX {
-        let Some(step) = walk.next_met(view, alloc, told)? else {
+        let step = walk.next_met(view, alloc, &mut walked)?;
+        tell_walked(alloc, told, &mut walked)?;
+        let Some(step) = step else {
             break;
         };
         if !step.node.is_folder() {
