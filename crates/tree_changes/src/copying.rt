@@ -65,17 +65,31 @@ fn copy_folder<S: FlushStore + Drop>(
     Ok((number, true))
 }
 
-/// A file or a symbolic link is copied, where nothing is against it.
+/// A node with permissions and owner of another one.
+fn with_rights_of(node: Node, other: &Node) -> Node {
+    Node {
+        permissions: other.permissions,
+        uid: other.uid,
+        gid: other.gid,
+        ..node
+    }
+}
+
+/// A file or a symbolic link is copied, where nothing is against it. A single file that takes the place of another one gets its permissions and owner.
 fn copy_other<S: FlushStore + Drop>(
     opened: &mut Opened<S>,
     alloc: Global,
     copying: &mut Copying,
     copied: &Copied,
 ) -> Result<(), Fault> {
-    if let Some(other) = replaced(opened, alloc, copied)? {
+    let mut copied = *copied;
+    if let Some(other) = replaced(opened, alloc, &copied)? {
         copying.forget(other.number);
+        if !copying.is_recursive && !other.is_link() {
+            copied.node = with_rights_of(copied.node, &other);
+        }
     }
-    copy_file(opened, alloc, copying, copied)
+    copy_file(opened, alloc, copying, &copied)
 }
 
 /// The path of a copy below a folder: that of its folder, and what the path of its node has behind that of the first one.

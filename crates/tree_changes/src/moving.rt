@@ -1,5 +1,6 @@
 // The word `mv`.
 
+use crate::removing::unlink;
 use flush_store::FlushStore;
 use std::alloc::{AllocError, Global};
 use tree_lines::{
@@ -66,7 +67,21 @@ fn is_taken<S: FlushStore + Drop>(
     }
 }
 
-/// Moves what stands at a path.
+/// Whether a file has the name already that it is to get, beside the one that it is to lose: as where a move was cut short between two folders.
+fn has_both_names<S: FlushStore + Drop>(
+    opened: &Opened<S>,
+    node: &Node,
+    from: Place,
+    place: Place,
+) -> bool {
+    let is_one_name = from.folder == place.folder && from.name == place.name;
+    match there(&opened.session, place) {
+        Ok(Some(other)) => !node.is_folder() && !is_one_name && other.number == node.number,
+        _ => false,
+    }
+}
+
+/// Moves what stands at a path. Where it is to get a name that it has, too, it loses the other one.
 fn move_one<S: FlushStore + Drop>(
     opened: &mut Opened<S>,
     alloc: Global,
@@ -77,6 +92,9 @@ fn move_one<S: FlushStore + Drop>(
     let name = own_name(alloc, path)?;
     let node = find_moved(opened, alloc, path, from)?;
     let place = goal.place(name);
+    if has_both_names(opened, &node, from, place) {
+        return unlink(opened, alloc, path.as_bytes(), (from.folder, from.name));
+    }
     let goal_path = goal_path(alloc, to, goal, name)?;
     let is_taken = is_taken(opened, alloc, &goal_path, place, &node)?;
     let told_path = if is_taken {

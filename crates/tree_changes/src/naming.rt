@@ -49,9 +49,6 @@ fn link_symbolic<S: FlushStore + Drop>(
     target: &str,
     (path, place): (&[u8], Place),
 ) -> Result<(), Fault> {
-    if target.is_empty() {
-        return Err(Fault::Volume(Reason::Empty));
-    }
     if target.len() > TARGET_LEN {
         return Err(at_bytes(alloc, path, Reason::LongTarget));
     }
@@ -76,6 +73,9 @@ pub fn link<S: FlushStore + Drop>(
     name: &str,
     linking: Linking,
 ) -> Result<(), Fault> {
+    if target.is_empty() {
+        return Err(Fault::Volume(Reason::Empty));
+    }
     let goal = find_to(&opened.session, alloc, opened.folder, name, false)?;
     let own = match linking {
         Linking::Hard => own_name(alloc, target)?,

@@ -15,7 +15,7 @@ pub struct Removing {
 }
 
 /// Takes the name of a file or a symbolic link.
-fn unlink<S: FlushStore + Drop>(
+pub fn unlink<S: FlushStore + Drop>(
     opened: &mut Opened<S>,
     alloc: Global,
     path: &[u8],

@@ -19,11 +19,17 @@ struct Counts {
     files: u64,
     folders: u64,
     links: u64,
+    /// What has no name, and is freed when the volume is opened to be changed.
+    unnamed: u64,
 }
 
 impl Counts {
-    /// Counts something of a kind.
-    fn add(&mut self, kind: Kind) {
+    /// Counts something of a kind that has so many links.
+    fn add(&mut self, kind: Kind, links: u32) {
+        if links == 0 {
+            self.unnamed = self.unnamed.saturating_add(1);
+            return;
+        }
         match kind {
             Kind::Directory => self.folders = self.folders.saturating_add(1),
             Kind::File => self.files = self.files.saturating_add(1),
@@ -38,13 +44,14 @@ fn counts_of<S: Store>(store: &S, tree: Tree) -> Counts {
         files: 0,
         folders: 0,
         links: 0,
+        unnamed: 0,
     };
     let mut from = TOP.saturating_add(1);
     for _number in 0..LEAVES {
         let Some(found) = next_inode(store, tree, from) else {
             break;
         };
-        counts.add(found.inode.kind);
+        counts.add(found.inode.kind, found.inode.fields.links);
         from = found.number.saturating_add(1);
     }
     counts
@@ -57,12 +64,12 @@ struct Findings {
     left: Vec<String>,
 }
 
-/// Parts findings.
+/// Parts findings, to which belongs how much has no name.
 fn part_findings<S: Store>(
     alloc: Global,
-    store: &S,
-    tree: Tree,
+    (store, tree): (&S, Tree),
     findings: &[Finding],
+    unnamed: u64,
 ) -> Result<Findings, AllocError> {
     let (mut damage, mut left) = (Vec::new(alloc), Vec::new(alloc));
     for finding in findings {
@@ -73,7 +80,28 @@ fn part_findings<S: Store>(
             left.push(text)?;
         }
     }
+    if unnamed > 0 {
+        left.push(format!(in alloc; "{unnamed} files or folders without a name")?)?;
+    }
     Ok(Findings { damage, left })
+}
+
+/// `check --repair` before the volume is opened to be changed: what a crash left, which that mends.
+pub fn tell_left<S: FlushStore>(
+    alloc: Global,
+    store: &S,
+    tree: Tree,
+    out: &mut impl Write,
+) -> Result<(), Fault> {
+    let found = treefs_check::check(alloc, store, tree)?;
+    let unnamed = counts_of(store, tree).unnamed;
+    for text in part_findings(alloc, (store, tree), &found, unnamed)?
+        .left
+        .iter()
+    {
+        writeln!(out, "mended: {text}")?;
+    }
+    Ok(())
 }
 
 /// Prints findings and counts.
@@ -87,10 +115,7 @@ fn print_found(
         writeln!(out, "damage: {text}")?;
     }
     for text in findings.left.iter() {
-        writeln!(
-            out,
-            "left by a crash, and mended when the volume is opened: {text}"
-        )?;
+        writeln!(out, "left by a crash: {text}")?;
     }
     if findings.damage.is_empty() {
         writeln!(
@@ -134,9 +159,9 @@ pub fn check<S: FlushStore>(
     out: &mut impl Write,
 ) -> Result<(), Fault> {
     let found = treefs_check::check(alloc, store, tree)?;
-    let findings = part_findings(alloc, store, tree, &found)?;
-    let faults = findings.damage.len() as u64;
     let (counts, free) = (counts_of(store, tree), store.state().free());
+    let findings = part_findings(alloc, (store, tree), &found, counts.unnamed)?;
+    let faults = findings.damage.len() as u64;
     if is_json {
         print_json(alloc, findings, counts, free, out)?;
     } else {

@@ -8,7 +8,7 @@ use flush_store::FlushStore;
 use host_trees::{Attributes, Host, Kind};
 use std::alloc::Global;
 use std::io::Read;
-use tree_lines::{Fault, Goal, Opened, Reason, at, below, find_to, system};
+use tree_lines::{Fault, Goal, Opened, Reason, at, below, find_to, system, there};
 
 /// The permissions of a file that standard input becomes.
 const PERMISSIONS: u16 = 0o644;
@@ -69,7 +69,14 @@ fn put_stream<H: Host, S: FlushStore + Drop>(
         }
         Goal::To(place) => place,
     };
-    let attributes = stream_attributes(arriving.host);
+    let mut attributes = stream_attributes(arriving.host);
+    if let Ok(Some(other)) = there(&arriving.volume.session, place)
+        && !other.is_link()
+    {
+        attributes.permissions = other.permissions;
+        attributes.uid = other.uid;
+        attributes.gid = other.gid;
+    }
     let goods = Goods {
         place,
         path: putting.path.as_bytes(),

@@ -28,7 +28,8 @@ const MODE: &str = "is no mode: wanted is one as 644, u+x or go-rwx,a=r";
 const OWNER: &str = "is no owner: wanted are numbers as 1000, 1000:100 or :100";
 
 /// What is wanted of the text of a time.
-const DATE: &str = "is no time: wanted is one as 2026-11-29, \"2026-11-29 14:30:00\" or seconds since 1970";
+const DATE: &str =
+    "is no time: wanted is one as 2026-11-29, \"2026-11-29 14:30:00\" or seconds since 1970";
 
 /// `chmod`: sets permissions, as a text says.
 fn change_mode<S: FlushStore + Drop>(
@@ -83,7 +84,10 @@ fn change_names<H: Host, S: FlushStore + Drop>(
     input: &mut impl Read,
 ) -> Result<(), Fault> {
     match word {
-        Word::Put { sources: paths, path } => {
+        Word::Put {
+            sources: paths,
+            path,
+        } => {
             let putting = Putting {
                 sources: paths,
                 path,

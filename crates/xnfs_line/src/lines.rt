@@ -15,16 +15,20 @@ use flush_store::FlushStore;
 use host_trees::{Host, RealHost};
 use std::alloc::Global;
 use std::fs::{File, Files};
-use std::io::{BufRead, Write};
+use std::io::{BufRead, Read, Write};
 use std::random::RandomSource;
 use std::thread::Threads;
 use std::time::Clock;
 use tree_disks::{VolumeKind, find_volume, format, open, open_for_tests};
 use tree_lines::{Fault, Opened, TOP, Told, reason_of};
+use tree_looks::tell_left;
 use treefs::BlockTypes;
 use treefs_session::Session;
 use xnfs_session::Stop;
 use xnfs_words::{Request, Word, prepared, read, unknown_command};
+
+/// So many bytes of standard input are read before the disk is opened.
+const PIECE: u64 = 1_048_576;
 
 /// What a line asks for on a disk: its name, the file system, the word, and when.
 #[derive(Drop)]
@@ -52,6 +56,18 @@ fn status_of(told: &[Fault], image: &str, out: &mut impl Write, err: &mut impl W
     if told.is_empty() { DONE } else { FAILED }
 }
 
+/// The volume of trees of a store, to be looked at.
+fn open_to_look<S: FlushStore + Drop>(
+    alloc: Global,
+    (store, types): (S, BlockTypes),
+    asked: &Asked,
+) -> Result<Session<S>, LineFault> {
+    match Session::open_to_look(alloc, store, asked.fs, types, asked.time) {
+        Ok(session) => Ok(session),
+        Err(fault) => Err(Fault::Volume(reason_of(fault, 0)).into()),
+    }
+}
+
 /// Does what a word that looks asks for on a volume of trees. Nothing is mended.
 fn look_at_trees<H: Host, S: FlushStore + Drop>(
     host: &H,
@@ -61,10 +77,7 @@ fn look_at_trees<H: Host, S: FlushStore + Drop>(
     out: &mut impl Write,
     err: &mut impl Write,
 ) -> Result<u8, LineFault> {
-    let session = match Session::open_to_look(alloc, store, asked.fs, types, asked.time) {
-        Ok(session) => session,
-        Err(fault) => return Err(Fault::Volume(reason_of(fault, 0)).into()),
-    };
+    let session = open_to_look(alloc, (store, types), asked)?;
     let mut told = Told::nothing(alloc);
     let done = look_at(host, &session, alloc, &mut told, (&asked.word, TOP), out);
     let status = status_of(&told.take(alloc), asked.image, out, err);
@@ -72,7 +85,7 @@ fn look_at_trees<H: Host, S: FlushStore + Drop>(
     Ok(status)
 }
 
-/// Does what a word that looks asks for on a volume of the first file system, and tells that it is one. The fault is `FirstVolume` for any other word.
+/// Does what a word that looks asks for on a volume of the first file system, behind a line that tells what it is. The fault is `FirstVolume` for any other word.
 fn look_at_first<H: Host, S: FlushStore + Drop>(
     host: &H,
     alloc: Global,
@@ -84,6 +97,7 @@ fn look_at_first<H: Host, S: FlushStore + Drop>(
     if !is_looking(&asked.word) || matches!(&asked.word, Word::Check { .. }) {
         return Err(LineFault::FirstVolume);
     }
+    let _status = tell(out, err, asked.image, &LineFault::FirstVolume);
     let volume = match FirstVolume::open(alloc, store, asked.fs) {
         Ok(volume) => volume,
         Err(reason) => return Err(Fault::Volume(reason).into()),
@@ -94,7 +108,6 @@ fn look_at_first<H: Host, S: FlushStore + Drop>(
         has_attributes: false,
     };
     let done = look(host, &volume, alloc, &mut told, (&asked.word, looked), out);
-    let _ = tell(out, err, asked.image, &LineFault::FirstVolume);
     let status = status_of(&told.take(alloc), asked.image, out, err);
     done?;
     Ok(status)
@@ -129,6 +142,20 @@ fn run_opened<H: Host, S: FlushStore + Drop>(
     Ok(status)
 }
 
+/// Prints what `check --repair` is to mend of a volume of trees: nothing where that was closed, and stays as it is. Answers the store.
+fn tell_repaired<S: FlushStore + Drop>(
+    alloc: Global,
+    (store, types): (S, BlockTypes),
+    asked: &Asked,
+    out: &mut impl Write,
+) -> Result<S, LineFault> {
+    let session = open_to_look(alloc, (store, types), asked)?;
+    if !session.volume().is_closed(session.store()) {
+        tell_left(alloc, session.store(), session.volume().tree, out)?;
+    }
+    Ok(session.into_store())
+}
+
 /// Does what a word asks for on a volume of trees, mended where a crash left it, and closes that: all is on the disk then. After a failure of the disk nothing
 /// more is written, so that its fault is the one that is told.
 fn change_trees<H: Host, S: FlushStore + Drop>(
@@ -140,6 +167,10 @@ fn change_trees<H: Host, S: FlushStore + Drop>(
     out: &mut impl Write,
     err: &mut impl Write,
 ) -> Result<u8, LineFault> {
+    let store = match &asked.word {
+        Word::Check { is_json: false, .. } => tell_repaired(alloc, (store, types), asked, out)?,
+        _ => store,
+    };
     let place = (asked.fs, types, asked.time);
     let mut opened = Opened::open(alloc, store, place, Some(system))?;
     let done = run_opened((host, clock), &mut opened, alloc, asked, input, out, err);
@@ -178,6 +209,18 @@ fn run_disk<H: Host, S: FlushStore + Drop>(
     }
 }
 
+/// What a word brings in from standard input, up to a piece. It is read before the disk is opened, so that who waits for a pipe shuts nobody out meanwhile, and
+/// a pipe can begin at the same disk.
+fn first_piece(alloc: Global, word: &Word, input: &mut impl Read) -> Result<Vec<u8>, LineFault> {
+    let mut first = Vec::new(alloc);
+    if let Word::Put { sources, .. } = word
+        && sources.iter().any(|source| *source == "-")
+    {
+        let _count = input.take(PIECE).read_to_end(&mut first)?;
+    }
+    Ok(first)
+}
+
 /// Opens the disk that a line names, does what it asks for, and answers its status.
 fn run_plain<R: Files<File = File> + AllocGlobal + Clock + Clone + Drop>(
     rt: &R,
@@ -190,8 +233,10 @@ fn run_plain<R: Files<File = File> + AllocGlobal + Clock + Clone + Drop>(
     err: &mut impl Write,
 ) -> Result<u8, LineFault> {
     let host = RealHost::new(rt);
+    let first = first_piece(alloc, &asked.word, input)?;
+    let mut input = first.as_slice().chain(input);
     let disk = open(rt, threads, alloc, asked.image, is_looking(&asked.word))?;
-    run_disk((&host, clock), alloc, disk, asked, input, out, err)
+    run_disk((&host, clock), alloc, disk, asked, &mut input, out, err)
 }
 
 /// The same on a disk that makes so many writes of blocks at most, and syncs where it is told so. The fault is `Stopped` where a further write was asked for.

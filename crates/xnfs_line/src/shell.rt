@@ -353,6 +353,14 @@ fn prompt(terminal: Terminal, out: &mut impl Write) -> io::Result<()> {
     Ok(())
 }
 
+/// Ends the line of a prompt behind which nothing came.
+fn end_prompt(terminal: Terminal, out: &mut impl Write) -> io::Result<()> {
+    if terminal == Terminal::Prompted {
+        writeln!(out)?;
+    }
+    Ok(())
+}
+
 /// Tells that a line is too long, which ends the shell.
 fn tell_too_long((image, number): (&str, u64), err: &mut impl Write) -> Ended {
     let _ = writeln!(
@@ -377,7 +385,10 @@ pub fn run_shell<H: Host, S: FlushStore + Drop>(
     for number in 1..u64::MAX {
         prompt(shell.terminal, out)?;
         let (ended, is_last) = match next_line(alloc, input)? {
-            Next::Nothing => break,
+            Next::Nothing => {
+                end_prompt(shell.terminal, out)?;
+                break;
+            }
             Next::TooLong => (tell_too_long((shell.image, number), err), true),
             Next::Line(line) => {
                 opened.session.set_clock(time_of(clock)?);

@@ -16,11 +16,7 @@ pub fn tell(out: &mut impl Write, err: &mut impl Write, image: &str, told: &impl
 }
 
 /// What is told of a command that there isn't: the one that may be meant, or all that there are.
-pub fn told_unknown(
-    alloc: Global,
-    unknown: Unknown,
-    is_shell: bool,
-) -> Result<String, AllocError> {
+pub fn told_unknown(alloc: Global, unknown: Unknown, is_shell: bool) -> Result<String, AllocError> {
     let word = shown(alloc, unknown.word.as_bytes())?;
     match unknown.meant {
         Some(meant) => format!(in alloc; "no command '{word}': is '{meant}' meant?"),

@@ -5,7 +5,7 @@ use std::alloc::{AllocError, Global};
 use strsim::jaro;
 
 /// How near a name is to a word at least that is told as meant.
-const NEAR: f64 = 0.7;
+const NEAR: f64 = 0.8;
 
 /// A command that there isn't, and the one that may be meant.
 #[derive(Clone, Copy, Debug)]

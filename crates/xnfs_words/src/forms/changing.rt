@@ -12,7 +12,7 @@ const TO: Part = Part::Wanted {
 const ALL_BELOW: Part = Part::Flag(Flag {
     name: "recursive",
     short: Some('R'),
-    alias: Some('r'),
+    alias: None,
     help: "folders with all below them",
 });
 
