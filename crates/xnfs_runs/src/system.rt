@@ -34,7 +34,10 @@ fn show<R: Files<File = File> + AllocGlobal>(
     } else {
         ""
     };
-    writeln!(out, "file {mode:o} links {links} size {size} at {time}{holes}")
+    writeln!(
+        out,
+        "file {mode:o} links {links} size {size} at {time}{holes}"
+    )
 }
 
 /// Does a step on a file of the system.
