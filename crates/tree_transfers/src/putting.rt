@@ -8,7 +8,7 @@ use flush_store::FlushStore;
 use host_trees::{Attributes, Host, Kind};
 use std::alloc::Global;
 use std::io::Read;
-use tree_lines::{Fault, Goal, Opened, Reason, at, below, find_to, system, there};
+use tree_lines::{Fault, Goal, Node, Opened, Reason, at, below, find_to, system, there};
 
 /// The permissions of a file that standard input becomes.
 const PERMISSIONS: u16 = 0o644;
@@ -25,12 +25,23 @@ pub struct Putting<'p> {
     pub has_lines: bool,
 }
 
+/// Permissions, user and group of a file that standard input becomes: those of the file that it replaces.
+fn rights_of<H: Host>(host: &H, replaced: Option<Node>) -> (u16, u32, u32) {
+    match replaced {
+        Some(node) if !node.is_link() => (node.permissions, node.uid, node.gid),
+        _ => {
+            let (uid, gid) = host.own_ids();
+            (PERMISSIONS, uid, gid)
+        }
+    }
+}
+
 /// What a file that standard input becomes is given.
-fn stream_attributes<H: Host>(host: &H) -> Attributes {
-    let (uid, gid) = host.own_ids();
+fn stream_attributes<H: Host>(host: &H, replaced: Option<Node>) -> Attributes {
+    let (permissions, uid, gid) = rights_of(host, replaced);
     Attributes {
         kind: Kind::Other,
-        permissions: PERMISSIONS,
+        permissions: permissions % 4_096,
         uid,
         gid,
         modified: 0,
@@ -69,14 +80,8 @@ fn put_stream<H: Host, S: FlushStore + Drop>(
         }
         Goal::To(place) => place,
     };
-    let mut attributes = stream_attributes(arriving.host);
-    if let Ok(Some(other)) = there(&arriving.volume.session, place)
-        && !other.is_link()
-    {
-        attributes.permissions = other.permissions;
-        attributes.uid = other.uid;
-        attributes.gid = other.gid;
-    }
+    let replaced = there(&arriving.volume.session, place).ok().flatten();
+    let attributes = stream_attributes(arriving.host, replaced);
     let goods = Goods {
         place,
         path: putting.path.as_bytes(),
