@@ -5,7 +5,7 @@ use crate::host::{Host, Names};
 use crate::linking::{Made, make, make_over};
 use crate::sink::Filler;
 use crate::writing::write_file;
-use std::alloc::Global;
+use std::alloc::{AllocError, Global};
 use std::fs::{DirBuilder, File, Files, OpenOptions};
 use std::io::{ErrorKind, Read, Write};
 use std::os::unix::fs::{DirBuilderExt, MetadataExt, lchown};
@@ -24,8 +24,8 @@ const OWN: u32 = 0o700;
 
 /// The files of the system that runs the program.
 #[derive(Drop)]
-pub struct RealHost<'a, R: Files<File = File> + AllocGlobal + Clock + Clone + Drop> {
-    rt: &'a R,
+pub struct RealHost<R: Files<File = File> + AllocGlobal + Clock + Clone + Drop> {
+    rt: R,
     /// Standard error, where that is a terminal.
     terminal: Option<File>,
 }
@@ -46,13 +46,13 @@ fn terminal_of<R: Files<File = File> + AllocGlobal>(rt: &R) -> Option<File> {
     }
 }
 
-impl<'a, R: Files<File = File> + AllocGlobal + Clock + Clone + Drop> RealHost<'a, R> {
+impl<R: Files<File = File> + AllocGlobal + Clock + Clone + Drop> RealHost<R> {
     /// The system that runs the program.
-    pub fn new(rt: &'a R) -> RealHost<'a, R> {
-        RealHost {
-            rt,
+    pub fn new(rt: &R) -> Result<RealHost<R>, AllocError> {
+        Ok(RealHost {
+            rt: rt.clone()?,
             terminal: terminal_of(rt),
-        }
+        })
     }
 }
 
@@ -66,15 +66,15 @@ fn not_locked(fault: OpenFault) -> WriteFault {
     }
 }
 
-impl<'a, R: Files<File = File> + AllocGlobal + Clock + Clone + Drop> Host for RealHost<'a, R> {
+impl<R: Files<File = File> + AllocGlobal + Clock + Clone + Drop> Host for RealHost<R> {
     type File = File;
 
     fn attributes(&self, path: &str) -> io::Result<Attributes> {
-        Ok(attributes_of(&fs::symlink_metadata(self.rt, path)?))
+        Ok(attributes_of(&fs::symlink_metadata(&self.rt, path)?))
     }
 
     fn attributes_through(&self, path: &str) -> io::Result<Attributes> {
-        Ok(attributes_of(&fs::metadata(self.rt, path)?))
+        Ok(attributes_of(&fs::metadata(&self.rt, path)?))
     }
 
     fn names(&self, alloc: Global, path: &str) -> io::Result<Names> {
@@ -83,7 +83,7 @@ impl<'a, R: Files<File = File> + AllocGlobal + Clock + Clone + Drop> Host for Re
             odd: 0,
             fault: None,
         };
-        for entry in fs::read_dir(self.rt, path)? {
+        for entry in fs::read_dir(&self.rt, path)? {
             match entry {
                 Ok(entry) => found
                     .names
@@ -99,15 +99,15 @@ impl<'a, R: Files<File = File> + AllocGlobal + Clock + Clone + Drop> Host for Re
     }
 
     fn target(&self, path: &str) -> io::Result<String> {
-        Ok(fs::read_link(self.rt, path)?.into_string())
+        Ok(fs::read_link(&self.rt, path)?.into_string())
     }
 
     fn open(&self, path: &str) -> io::Result<File> {
-        File::open(self.rt, path)
+        File::open(&self.rt, path)
     }
 
     fn open_below(&self, path: &str) -> io::Result<Option<(File, Attributes)>> {
-        let file = File::open(self.rt, path)?;
+        let file = File::open(&self.rt, path)?;
         let opened = attributes_of(&file.metadata()?);
         if opened.kind == Kind::File && opened.is_same(&self.attributes(path)?) {
             Ok(Some((file, opened)))
@@ -121,15 +121,15 @@ impl<'a, R: Files<File = File> + AllocGlobal + Clock + Clone + Drop> Host for Re
     }
 
     fn make_folder(&self, path: &str) -> io::Result<()> {
-        DirBuilder::new().mode(OWN).create(self.rt, path)
+        DirBuilder::new().mode(OWN).create(&self.rt, path)
     }
 
     fn make_folders(&self, path: &str) -> io::Result<()> {
-        fs::create_dir_all(self.rt, path)
+        fs::create_dir_all(&self.rt, path)
     }
 
     fn own_ids(&self) -> (u32, u32) {
-        match fs::metadata(self.rt, OWN_PROCESS) {
+        match fs::metadata(&self.rt, OWN_PROCESS) {
             Ok(metadata) => (metadata.uid(), metadata.gid()),
             Err(_) => (0, 0),
         }
@@ -145,12 +145,12 @@ impl<'a, R: Files<File = File> + AllocGlobal + Clock + Clone + Drop> Host for Re
     ) -> io::Result<()> {
         let made = Made::SymbolicLink(target);
         if is_over {
-            make_over(self.rt, alloc, made, path)?;
+            make_over(&self.rt, alloc, made, path)?;
         } else {
-            make(self.rt, made, path)?;
+            make(&self.rt, made, path)?;
         }
         if let Some(settings) = settings {
-            let _ = lchown(self.rt, path, Some(settings.uid), Some(settings.gid));
+            let _ = lchown(&self.rt, path, Some(settings.uid), Some(settings.gid));
         }
         Ok(())
     }
@@ -164,13 +164,13 @@ impl<'a, R: Files<File = File> + AllocGlobal + Clock + Clone + Drop> Host for Re
     ) -> Result<(), WriteFault> {
         let made = Made::HardLink(old);
         if !is_over {
-            return Ok(make(self.rt, made, path)?);
+            return Ok(make(&self.rt, made, path)?);
         }
-        let _locked = match open_locked(self.rt, path, Access::Alone) {
+        let _locked = match open_locked(&self.rt, path, Access::Alone) {
             Ok(file) => file,
             Err(fault) => return Err(not_locked(fault)),
         };
-        Ok(make_over(self.rt, alloc, made, path)?)
+        Ok(make_over(&self.rt, alloc, made, path)?)
     }
 
     fn write_file<F: Filler>(
@@ -180,11 +180,11 @@ impl<'a, R: Files<File = File> + AllocGlobal + Clock + Clone + Drop> Host for Re
         settings: Option<&Settings>,
         filler: &mut F,
     ) -> Result<(), WriteFault> {
-        write_file(self.rt, path, links, settings, filler)
+        write_file(&self.rt, path, links, settings, filler)
     }
 
     fn set_folder(&self, path: &str, settings: &Settings) -> io::Result<()> {
-        set_all(&File::open(self.rt, path)?, settings)
+        set_all(&File::open(&self.rt, path)?, settings)
     }
 
     fn milliseconds(&self) -> u64 {

@@ -76,11 +76,11 @@ fn set_times<S: FlushStore + Drop>(
 }
 
 /// Does what a word asks for that gives names or takes them, or brings files in; nothing for any other.
-fn change_names<H: Host, S: FlushStore + Drop>(
+fn change_names<'a, H: Host, S: FlushStore + Drop>(
     host: &H,
     opened: &mut Opened<S>,
     alloc: Global,
-    (word, sources): (&Word, Sources),
+    (word, sources): (&'a Word<'a>, Sources<'a>),
     input: &mut impl Read,
 ) -> Result<(), Fault> {
     match word {

@@ -232,7 +232,7 @@ fn run_plain<R: Files<File = File> + AllocGlobal + Clock + Clone + Drop>(
     out: &mut impl Write,
     err: &mut impl Write,
 ) -> Result<u8, LineFault> {
-    let host = RealHost::new(rt);
+    let host = RealHost::new(rt)?;
     let first = first_piece(alloc, &asked.word, input)?;
     let mut input = first.as_slice().chain(input);
     let disk = open(rt, threads, alloc, asked.image, is_looking(&asked.word))?;
@@ -250,7 +250,7 @@ fn run_test<R: Files<File = File> + AllocGlobal + Clock + Clone + Drop>(
     out: &mut impl Write,
     err: &mut impl Write,
 ) -> Result<u8, LineFault> {
-    let host = RealHost::new(rt);
+    let host = RealHost::new(rt)?;
     let stop = Stop::after(alloc, writes)?;
     let disk = open_for_tests(rt, threads, alloc, asked.image, (&stop, is_synced))?;
     let done = run_disk((&host, clock), alloc, disk, asked, input, out, err);
