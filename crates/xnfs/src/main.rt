@@ -70,14 +70,14 @@ fn run(rt: &HostRuntime, threads: &(impl Threads + Sync)) -> io::Result<u8> {
     };
     let mut out = BufWriter::new(alloc, rt.stdout())?;
     let mut err = BufWriter::new(alloc, rt.stderr())?;
-    let mut input = BufReader::new(alloc, rt.stdin())?;
+    let input = BufReader::new(alloc, rt.stdin())?;
     let status = line(
         rt,
         (rt, terminal_of(rt)),
         threads,
         alloc,
         words.as_slice(),
-        &mut input,
+        input,
         &mut out,
         &mut err,
     );

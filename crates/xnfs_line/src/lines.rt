@@ -15,7 +15,7 @@ use flush_store::FlushStore;
 use host_trees::{Host, RealHost};
 use std::alloc::Global;
 use std::fs::{File, Files};
-use std::io::{BufRead, Read, Write};
+use std::io::{BufRead, Cursor, Read, Write};
 use std::random::RandomSource;
 use std::thread::Threads;
 use std::time::Clock;
@@ -228,13 +228,14 @@ fn run_plain<R: Files<File = File> + AllocGlobal + Clock + Clone + Drop>(
     threads: &(impl Threads + Sync),
     alloc: Global,
     asked: &Asked,
-    input: &mut impl BufRead,
+    input: impl BufRead + Drop,
     out: &mut impl Write,
     err: &mut impl Write,
 ) -> Result<u8, LineFault> {
     let host = RealHost::new(rt)?;
-    let first = first_piece(alloc, &asked.word, input)?;
-    let mut input = first.as_slice().chain(input);
+    let mut input = input;
+    let first = first_piece(alloc, &asked.word, &mut input)?;
+    let mut input = Cursor::new(first).chain(input);
     let disk = open(rt, threads, alloc, asked.image, is_looking(&asked.word))?;
     run_disk((&host, clock), alloc, disk, asked, &mut input, out, err)
 }
@@ -246,14 +247,15 @@ fn run_test<R: Files<File = File> + AllocGlobal + Clock + Clone + Drop>(
     threads: &(impl Threads + Sync),
     alloc: Global,
     (asked, writes, is_synced): (&Asked, u64, bool),
-    input: &mut impl BufRead,
+    input: impl BufRead + Drop,
     out: &mut impl Write,
     err: &mut impl Write,
 ) -> Result<u8, LineFault> {
     let host = RealHost::new(rt)?;
     let stop = Stop::after(alloc, writes)?;
     let disk = open_for_tests(rt, threads, alloc, asked.image, (&stop, is_synced))?;
-    let done = run_disk((&host, clock), alloc, disk, asked, input, out, err);
+    let mut input = input;
+    let done = run_disk((&host, clock), alloc, disk, asked, &mut input, out, err);
     if stop.is_over() {
         return Err(LineFault::Stopped);
     }
@@ -267,7 +269,7 @@ fn run<R: Files<File = File> + AllocGlobal + Clock + Clone + Drop>(
     threads: &(impl Threads + Sync),
     alloc: Global,
     request: Request,
-    input: &mut impl BufRead,
+    input: impl BufRead + Drop,
     out: &mut impl Write,
     err: &mut impl Write,
 ) -> Result<u8, LineFault> {
@@ -324,7 +326,7 @@ fn run_words<R: Files<File = File> + AllocGlobal + Clock + Clone + Drop>(
     threads: &(impl Threads + Sync),
     alloc: Global,
     words: &[&str],
-    input: &mut impl BufRead,
+    input: impl BufRead + Drop,
     out: &mut impl Write,
     err: &mut impl Write,
 ) -> u8 {
@@ -355,7 +357,7 @@ pub fn line<R: Files<File = File> + AllocGlobal + Clock + Clone + Drop>(
     threads: &(impl Threads + Sync),
     alloc: Global,
     words: &[String],
-    input: &mut impl BufRead,
+    input: impl BufRead + Drop,
     out: &mut impl Write,
     err: &mut impl Write,
 ) -> u8 {

@@ -28,11 +28,10 @@ fn run_program<R: Files<File = File> + AllocGlobal + Clock + Clone + Drop>(
     (terminal, words): (Terminal, &[String]),
     input: &[u8],
 ) -> io::Result<Vec<u8>> {
-    let mut input = input;
     let (mut out, mut err) = (Vec::new(alloc), Vec::new(alloc));
     let outside = (&Fixed, terminal);
     let status = line(
-        rt, outside, threads, alloc, words, &mut input, &mut out, &mut err,
+        rt, outside, threads, alloc, words, input, &mut out, &mut err,
     );
     end_line(&mut out)?;
     out.extend_from_slice(&err)?;
