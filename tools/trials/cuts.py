@@ -2,11 +2,11 @@
 
 Each of RUNS runs (20) is a random line or a random shell, also a lazy one, on a disk that the runs before it have filled; `strace` records its
 writes and syncs, and what it prints. At each point of that record images are built with none, all and SUBSETS (30) random subsets of the writes since
-the last good sync kept. Each has to be sound by `xnsim check`, its names good, and each file whole: of the lines that have answered all is there, of a
-lazy shell up to its last `sync` that has; what the next line does may be there or not. After the last point, with status 0, all has to be there.
-One image in ten is repaired, which has to change no name and no file, and to leave no inode in use without a name. A fresh disk is made for every ten
-runs; every second one is crowded: it has three blocks of inodes and two of names in a folder, and most of its runs are lazy shells. A line on standard
-error tells each run.
+the last good sync kept. Each has to be sound by `xnsim check`. Once it was opened to be changed, `check` has to find nothing, and each file has to be whole: of
+the lines that have answered all is there, of a lazy shell up to its last `sync` that has; what the next line does may be there or not, name by name. After the
+last point, with status 0, all has to be there. On one image in ten the words that look are tried before it is mended: they have to end well and to leave it as
+it is. A fresh disk is made for every ten runs; every second one is crowded: it has more inodes than inode 0 has pointers of its own, and most of its runs are
+lazy shells. A line on standard error tells each run.
 """
 
 import collections
@@ -17,7 +17,7 @@ import subprocess
 import sys
 import tempfile
 
-from trials.disks import XNFS, crowd, found, fresh, is_repaired, is_sound, write_sources
+from trials.disks import XNFS, crowd, fresh, is_looked_at, is_sound, mended, write_sources
 from trials.lines import answered_by, random_run
 from trials.programs import demand, read, write
 from trials.tally import Tally
@@ -82,14 +82,20 @@ class Cuts:
             return
         self.seen.add(key)
         write(self.folder, "cut", image)
-        left = found(self.folder, "cut")
         self.tally.count("images")
-        if not is_sound(self.folder, "cut") or not (self.trial.leaves(left) if is_after else self.trial.may_leave(left, answered)):
-            self.tally.fault(self.trial.words, self.trial.lines, "answered", answered)
-        elif len(self.seen) % 10 == 0:
-            self.tally.count("repairs")
-            if not is_repaired(self.folder, "cut", left):
-                self.tally.fault("repair:", self.trial.words, self.trial.lines, "answered", answered)
+        if not is_sound(self.folder, "cut"):
+            self.fault(image, ["not sound"], answered)
+        if len(self.seen) % 10 == 0:
+            self.tally.count("looked at")
+            if not is_looked_at(self.folder, "cut"):
+                self.fault(image, ["not looked at well"], answered)
+        if told := self.trial.odd(mended(self.folder, "cut", ["sync"]), None if is_after else answered):
+            self.fault(image, told, answered)
+
+    def fault(self, image, told, answered):
+        kept = f"/tmp/cut_{self.tally.wrong}.img"
+        write("/", kept, image)
+        self.tally.fault(*told[:3], f"(kept as {kept})", self.trial.words, self.trial.lines, "answered", answered)
 
     def take(self, image, events, count, rng):
         """Looks at all cuts of a record."""
@@ -108,12 +114,12 @@ class Cuts:
 
 def play(runs=20, count=30):
     demand(["strace"])
-    rng, kinds, most, tally = random.Random(2), collections.Counter(), 0, Tally("runs", "shells", "lines", "images", "repairs", "syncs")
+    rng, kinds, most, tally = random.Random(2), collections.Counter(), 0, Tally("runs", "shells", "lines", "images", "looked at", "syncs")
     with tempfile.TemporaryDirectory() as folder:
         write_sources(folder)
         for number in range(runs):
             if number % 10 == 0:
-                fresh(folder, "disk", 640)
+                fresh(folder, "disk", 1024)
                 tree = crowd(folder, "disk", rng) if number % 20 == 0 else Tree()
             trial = random_run(tree, rng)
             kinds.update(trial.kinds())

@@ -6,20 +6,24 @@ import resource
 import shutil
 import subprocess
 
-from trials.disks import XNFS, found, fresh, is_sound, write_sources
+from trials.disks import XNFS, fresh, is_sound, mended, write_sources
 from trials.programs import PATIENCE, disk_in_memory, limit, outputs_refused, read, run, write
 from trials.tally import DONE, NAMED_FAULT, Tally
-from trials.tree import SOURCES, Run, Tree
+from trials.tree import SOURCES, Run, Tree, odd
 
 FAULT = re.compile(rb"xnfs: [^\n]+\n")
-MADE = [["mkdir", "/a"], ["put", "source3000", "/a/b"], ["put", "source100", "/c"]]
+MADE = [["mkdir", "/a"], ["put", "source3000a", "/a/b"], ["put", "source1a", "/c"], ["ln", "-s", "a/b", "/link"]]
 START = Tree()
 for made in MADE:
-    START.change(made, b"")
-LOOKS = [["ls"], ["ls", "-l"], ["tree"], ["cat", "/a/b"], ["stat", "/c"], ["df"], ["check"], ["graph"], ["get", "/c", "-"]]
+    START.change(made)
+LOOKS = [
+    ["ls"], ["ls", "-l"], ["ls", "--json"], ["tree"], ["cat", "/a/b"], ["stat", "/c"], ["df"], ["check"], ["get", "/c", "-"], ["readlink", "/link"], ["find"],
+    ["du"],
+]
 CHANGES = [
-    ["mkdir", "/d"], ["put", "source20000", "/d"], ["put", "source6144", "/c"], ["cp", "/a/b", "/d"], ["mv", "/c", "/d"], ["mv", "/c", "/a/b"],
-    ["rm", "/c"], ["rm", "-r", "/a"], ["check", "--repair"],
+    ["mkdir", "/d"], ["put", "source20000a", "/d"], ["put", "source8192a", "/c"], ["put", "holes", "/d"], ["cp", "/a/b", "/d"], ["cp", "-r", "/a", "/d"],
+    ["mv", "/c", "/d"], ["mv", "/c", "/a/b"], ["rm", "/c"], ["rm", "-r", "/a"], ["ln", "/c", "/d"], ["ln", "-s", "c", "/d"], ["chmod", "600", "/c"],
+    ["truncate", "-s", "9000", "/c"], ["touch", "-d", "1000000000", "/c"], ["sync"], ["check", "--repair"],
 ]
 
 
@@ -29,7 +33,7 @@ class Trials:
     def __init__(self, folder):
         self.folder, self.tally = folder, Tally(DONE, NAMED_FAULT)
         write_sources(folder)
-        fresh(folder, "kept", 64)
+        fresh(folder, "kept", 128)
         for words in MADE:
             if run(XNFS, ["kept", *words], folder)[0] != 0:
                 raise RuntimeError(words)
@@ -53,8 +57,7 @@ class Trials:
     def is_left(self, words, status):
         """Whether the disk has what a line may leave."""
         trial = Run(words, b"", [words], [START, self.after(words)])
-        left = found(self.folder, "disk")
-        return is_sound(self.folder, "disk") and (trial.leaves(left) if status == 0 else trial.may_leave(left, 0))
+        return is_sound(self.folder, "disk") and not trial.odd(mended(self.folder, "disk", ["sync"]), None if status == 0 else 0)
 
     def try_line(self, what, words, **how):
         """Runs a line on the disk as it was, under some refusal."""
@@ -82,7 +85,7 @@ def two_at_once(folder):
     """Another process has the disk open; then ten that start together: what each that was done has made is there, and nothing else."""
     trials = Trials(folder)
     with subprocess.Popen([XNFS, "disk", "shell"], cwd=folder, stdin=subprocess.PIPE, stdout=subprocess.PIPE) as holder:
-        holder.stdin.write(b"stat /\n")
+        holder.stdin.write(b"pwd\n")
         holder.stdin.flush()
         holder.stdout.readline()
         for words in [*LOOKS, *CHANGES]:
@@ -92,16 +95,16 @@ def two_at_once(folder):
         holder.wait()
     for number in range(20):
         trials.put_disk()
-        lines = [["put", "source513", f"/f{each}"] for each in range(10)]
+        lines = [["put", "source513a", f"/f{each}"] for each in range(10)]
         runs = [subprocess.Popen([XNFS, "disk", *words], cwd=folder, stderr=subprocess.PIPE) for words in lines]
         tree = START.copy()
         for words, each in zip(lines, runs):
             err = each.communicate()[1]
             trials.count(f"ten at once, {number}", words, each.returncode, err, True)
             if each.returncode == 0:
-                tree.change(words, b"")
-        left = found(folder, "disk")
-        if left is None or left.paths != tree.paths or not is_sound(folder, "disk"):
+                tree.change(words)
+        left = mended(folder, "disk", ["sync"])
+        if left is None or odd(left, [tree]) or not is_sound(folder, "disk"):
             trials.tally.fault("ten at once")
     return trials
 
@@ -125,14 +128,14 @@ def try_get(trials, what, **how):
     given = {"cwd": trials.folder, "stdin": subprocess.DEVNULL, "capture_output": True, "timeout": PATIENCE, **how}
     done = subprocess.run([XNFS, "disk", "get", "/a/b", "target"], check=False, **given)
     data = read(trials.folder, "target")
-    is_well = data == SOURCES["source3000"] if done.returncode == 0 else data == b"old"
+    is_well = data == SOURCES["source3000a"] if done.returncode == 0 else data == b"old"
     trials.count(what, ["get"], done.returncode, done.stderr, is_well and sorted(os.listdir(trials.folder)) == files)
 
 
 def lengths(folder):
     """No file may grow or be written past a length."""
     trials = Trials(folder)
-    for length in range(0, 64 * 512 + 513, 512):
+    for length in range(0, 128 * 512 + 513, 1024):
         for value in {length, max(length - 1, 0)}:
             start = limit(resource.RLIMIT_FSIZE, value)
             try_format(trials, folder, f"files of {value} bytes at most", preexec_fn=start)
@@ -163,7 +166,7 @@ def full_disks(folder):
             try_format(trials, inner, f"a disk of {pages} pages")
     for words in CHANGES:
         for pages in (0, 1, 2, 3):
-            with disk_in_memory(inner, "128k"):
+            with disk_in_memory(inner, "192k"):
                 with_holes(trials, inner, words, pages)
     return trials
 
@@ -174,7 +177,7 @@ def with_holes(trials, inner, words, pages):
     write(inner, "spare", bytes(4096 * pages))
     fill(inner)
     os.remove(os.path.join(inner, "spare"))
-    words = [f"../{word}" if word in SOURCES else word for word in words]
+    words = [f"../{word}" if word in SOURCES or word == "holes" else word for word in words]
     done = subprocess.run([XNFS, "disk", *words], cwd=inner, capture_output=True, timeout=PATIENCE, check=False)
     shutil.copy(os.path.join(inner, "disk"), os.path.join(trials.folder, "disk"))
     words = [os.path.basename(word) if word.startswith("../") else word for word in words]
@@ -197,13 +200,13 @@ def rights(folder):
             may_do = mode == 0o666 or (mode == 0o444 and words in LOOKS)
             is_right = trials.is_left(words, done.returncode) and (done.returncode == 0) == may_do
             trials.count(f"a disk of mode {mode:o}", words, done.returncode, done.stderr, is_right)
-    for words in [["format", "made", "64"], ["disk", "get", "/c", "target"], ["disk", "put", "hidden", "/h"]]:
+    for words in [["format", "made", "128"], ["disk", "get", "/c", "target"], ["disk", "put", "hidden", "/h"]]:
         trials.put_disk()
         os.chmod(os.path.join(folder, "disk"), 0o666)
-        shutil.copy(os.path.join(folder, "source100"), os.path.join(folder, "hidden"))
+        shutil.copy(os.path.join(folder, "source1a"), os.path.join(folder, "hidden"))
         os.chmod(os.path.join(folder, "hidden"), 0o600)
         done = subprocess.run([program, *words], **how)
-        trials.count("a folder of mode 755", words, done.returncode, done.stderr, done.returncode == 1 and trials.is_left(["graph"], 0))
+        trials.count("a folder of mode 755", words, done.returncode, done.stderr, done.returncode == 1 and trials.is_left(["sync"], 0))
     return trials
 
 

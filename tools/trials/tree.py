@@ -195,7 +195,7 @@ class Tree:
             case ["truncate", "-s", size, path]:
                 return self.set_thing(path, lambda data, mode: (data[: int(size)].ljust(int(size), b"\0"), mode))
             case ["touch", "-d", _, path]:
-                return self.kind(path) is not None
+                return self.kind(path) in ("file", "folder")
             case ["check", "--repair"] | ["sync"]:
                 return True
         return False
@@ -268,7 +268,7 @@ class Fit:
     """How a tree that was found agrees with some trees, of which one followed on the other: each name leads to what it led to in one of them."""
 
     def __init__(self, found, trees):
-        self.found, self.trees, self.seen, self.of, self.odd = found, trees, set(), {}, []
+        self.found, self.trees, self.seen, self.odd = found, trees, set(), []
 
     def states(self, number):
         return {tree.things[number] for tree in self.trees if number in tree.things}
@@ -291,11 +291,11 @@ class Fit:
             if thing in self.states(number):
                 seen[number] = self.odd_in(here, number, path) if thing[0] == "folder" else []
         fitting = {number for number, odd in seen.items() if not odd}
-        self.of[here] = fitting & self.of.get(here, fitting)
         self.seen |= fitting
-        if self.of[here]:
+        if fitting:
             return []
-        return min(seen.values(), key=len, default=[]) or [f"{path} is {shown(thing)}, and not {[shown(it) for number in numbers for it in self.states(number)]}"]
+        states = [shown(it) for number in numbers for it in self.states(number)]
+        return sum(sorted(seen.values(), key=len), []) or [f"{path} is {shown(thing)}, and not {states}"]
 
     def play(self):
         """Finds what is odd: what doesn't agree, and what is in each of the trees and wasn't found."""
