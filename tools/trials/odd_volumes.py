@@ -73,7 +73,7 @@ class Trials:
         """An empty volume of the first file system."""
         run(XNSIM, ["format", "first", str(made_volumes.BLOCKS), "--ffs"], self.folder)
         image = bytearray(read(self.folder, "first"))
-        struct.pack_into("<II", image, tree_volumes.SLOT, 5, 5)
+        struct.pack_into("<II", image, tree_volumes.SLOT, 5, 3)
         struct.pack_into("<I", image, 512 * 5, 4)
         os.remove(os.path.join(self.folder, "first"))
         return bytes(image)
