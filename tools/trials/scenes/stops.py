@@ -69,6 +69,25 @@ def a_lazy_shell_writes_at_each_early_end():
 
 
 @scene
+def a_line_of_a_shell_is_on_the_disk_once_it_has_answered():
+    fresh()
+    write("source", b"bytes")
+    lines = ["put source /a", "mkdir /d", "mv /a /d", "chmod 600 /d/a", "ln /d/a /b", "truncate -s 3 /b"]
+    shell = subprocess.Popen([XNFS, "d.img", "shell"], stdin=subprocess.PIPE, stdout=subprocess.PIPE)
+    for line in lines:
+        shell.stdin.write(f"{line}\npwd\n".encode())
+        shell.stdin.flush()
+        want(shell.stdout.readline() == b"/\n", f"{line} is not answered")
+        shutil.copy("d.img", "copy.img")
+    shell.kill()
+    shell.communicate(timeout=60)
+    for name in ("d.img", "copy.img"):
+        run(XNFS, name, "sync", status=0)
+        told = run(XNFS, name, "cat", "/b", "/d/a").stdout, run(XNFS, name, "stat", "/b").stdout
+        want(told[0] == b"bytbyt" and b"mode: 0600" in told[1], f"lines of a shell that have answered are lost by a kill: {told}")
+
+
+@scene
 def a_moved_and_removed_file_is_whole_or_gone():
     big = os.urandom(40000)
     fresh(big=big)

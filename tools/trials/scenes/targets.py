@@ -211,6 +211,19 @@ def put_of_a_folder_follows_no_link():
 
 
 @scene
+def the_disk_is_not_put_into_itself():
+    os.mkdir("p")
+    fresh("p/d.img", a=b"bytes")
+    os.link("p/d.img", "p/same")
+    write("p/other", b"other")
+    done = run(XNFS, "p/d.img", "put", "p", "/p", status=1)
+    told = done.stderr.count(b"the disk itself")
+    want(told == 2 and run(XNFS, "p/d.img", "ls", "/p").stdout == b"other\n", f"put of the folder in which the disk stands: {done.stderr!r}")
+    for name in ("p/d.img", "p/same"):
+        want(b"the disk itself" in run(XNFS, "p/d.img", "put", name, "/d", status=1).stderr, f"put of {name}, which is the disk")
+
+
+@scene
 def put_and_get_go_into_folders_that_are_there():
     fresh()
     os.makedirs("p")
