@@ -8,6 +8,7 @@ SEED (1); the disks are of 1 to 16 MiB, so some lines find no space, after which
 """
 
 import collections
+import contextlib
 import os
 import random
 import re
@@ -64,6 +65,8 @@ class Folder:
     def target(self, source, to, own=None):
         """Where something goes: into the folder that is there, else to that name."""
         path = self.at(to)
+        with contextlib.suppress(FileNotFoundError):
+            os.stat(path)
         if os.path.isdir(path):
             return os.path.join(path, own or os.path.basename(source.rstrip("/")))
         if not os.path.isdir(os.path.dirname(path)):

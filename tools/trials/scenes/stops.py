@@ -326,3 +326,38 @@ def a_full_disk_is_stopped_and_mended():
             got = {path: run(XNFS, "copy.img", "cat", path).stdout for path in kept}
             for path in set(kept) - {words[-1], words[1]}:
                 want(got[path] == kept[path], f"{words} stopped after {count} writes: {path} has other bytes")
+
+
+@scene
+def a_file_with_trees_of_all_heights_is_cut():
+    places = [0, 5_000, 60_000, 5_000_000, 900_000_000, 1_100_000_000]
+    with open("source", "wb") as file:
+        for place in places:
+            file.seek(place)
+            file.write(b"mark")
+    run(XNFS, "format", "d.img", 512, status=0)
+    run(XNFS, "d.img", "put", "source", "/a", status=0)
+    whole_size = places[-1] + 4
+
+    def seen():
+        run(XNFS, "copy.img", "get", "/a", "got", status=0)
+        with open("got", "rb") as file:
+            size, found = os.fstat(file.fileno()).st_size, []
+            for place in places:
+                file.seek(place)
+                found += [place] * (file.read(4) == b"mark")
+        return size, found
+
+    for size in (0, 384, 5_002, 60_004, 5_000_000, 900_000_004, 2_000_000_000):
+        for count in range(40):
+            shutil.copy("d.img", "copy.img")
+            ended = run(XNFS, "copy.img", "--stop", count, "truncate", "-s", size, "/a")
+            leaks_nothing(count)
+            got = seen()
+            want(got in [(it, [place for place in places if place + 4 <= it]) for it in (whole_size, size)], f"cut to {size}, stopped after {count} writes: {got}")
+            if ended.returncode == 0:
+                break
+        run(XNFS, "copy.img", "truncate", "-s", whole_size, "/a", status=0)
+        want(seen() == (whole_size, [place for place in places if place + 4 <= size]), f"cut to {size} and grown again: {seen()}")
+        run(XNFS, "copy.img", "rm", "/a", status=0)
+        want(b"blocks free: 507 of 512" in run(XNFS, "copy.img", "df").stdout, f"what is left of a file that was cut to {size} and removed: {run(XNFS, 'copy.img', 'df').stdout!r}")
