@@ -24,7 +24,8 @@ from trials.tally import Tally
 
 NAMES = ["a", "b", "c", "d", "notes.txt", "two words", "größe", ".hidden", "-r", "n" * 255, "ü" * 127, "x'y", 'x"y', "#1", "back\\slash"]
 LENGTHS = [0, 1, 383, 384, 385, 511, 512, 513, 896, 4096, 8191, 8192, 8193, 20_000, 73_215, 73_216, 73_217, 200_000]
-MODES = ["600", "755", "0", "4755", "u+x", "go-rwx", "a=r", "u=rwx,g=rx,o=", "+x", "1777"]
+# The system's own `chmod` keeps the bits of folders by which what is made in them gets their owner or group, so none has these.
+MODES = ["600", "755", "0", "u+x", "go-rwx", "a=r", "u=rwx,g=rx,o=", "+x", "1777"]
 # The system tells the time of a change so exactly, as a line and the like of it are done one behind the other.
 SECONDS = 30
 NO_SPACE = re.compile(rb"no space: \d+ blocks free|the folder has no place for this name")
@@ -261,8 +262,8 @@ def random_words(paths, rng, sources):
         lambda: ["rm", "-f", paths.any()], lambda: ["rmdir", paths.folder()], lambda: ["mv", paths.any(), paths.goal()],
         lambda: ["mv", paths.folder(), paths.goal()], lambda: ["mv", paths.file(), paths.file()], lambda: ["cp", paths.any(), paths.goal()],
         lambda: ["cp", "-r", paths.any(), paths.goal()], lambda: ["ln", paths.file(), paths.goal()],
-        lambda: ["ln", "-s", rng.choice(["a", "../b", "/nowhere", "ü" * 200, "long/" * 200]), paths.goal()],
-        lambda: ["chmod", rng.choice(MODES), paths.any()], lambda: ["chmod", "-R", rng.choice(["u+rwx", "go-w"]), paths.folder()],
+        lambda: ["ln", "-s", rng.choice(["a", "./b", "/nowhere", "ü" * 200, "long/" * 200]), paths.goal()],
+        lambda: ["chmod", rng.choice(MODES), paths.any()], lambda: ["chmod", rng.choice(["4755", "u+s", "2711"]), paths.file()], lambda: ["chmod", "-R", rng.choice(["u+rwx", "go-w"]), paths.folder()],
         lambda: ["chown", rng.choice(["7", "7:8", ":9", "0:0"]), paths.any()],
         lambda: ["touch", "-d", str(rng.randrange(2 * 10**9)), paths.any()], lambda: ["touch", paths.any()],
         lambda: ["truncate", "-s", str(rng.choice([*LENGTHS, 1_000_000])), paths.file()],
@@ -292,7 +293,7 @@ def write_sources(top, rng):
             path = os.path.join(above, name)
             if not os.path.islink(path):
                 os.chown(path, rng.randrange(3), rng.randrange(3))
-                os.chmod(path, rng.choice([0o600, 0o644, 0o755, 0o4755]))
+                os.chmod(path, rng.choice([0o600, 0o644, 0o755, 0o4755][: 3 if name in folders else 4]))
                 os.utime(path, ns=(0, rng.randrange(10**18)))
     return [*names, "holes", "tree", "tree"]
 

@@ -1,16 +1,21 @@
 """Runs `xnfs` where the system or another process refuses it something: a part of `hostile`."""
 
+import itertools
 import os
 import re
 import resource
 import shutil
+import signal
 import subprocess
 
 from trials.disks import XNFS, fresh, is_sound, mended, write_sources
-from trials.programs import PATIENCE, disk_in_memory, limit, outputs_refused, read, run, write
+from trials.memory import LIBRARY
+from trials.memory import TOLD as REFUSED_TOLD
+from trials.programs import PATIENCE, built_library, disk_in_memory, limit, outputs_refused, read, run, write
 from trials.tally import DONE, NAMED_FAULT, Tally
 from trials.tree import SOURCES, Run, Tree, odd
 
+REFUSED = REFUSED_TOLD.encode() + b"\n"
 FAULT = re.compile(rb"xnfs: [^\n]+\n")
 MADE = [["mkdir", "/a"], ["put", "source3000a", "/a/b"], ["put", "source1a", "/c"], ["ln", "-s", "a/b", "/link"]]
 START = Tree()
@@ -210,4 +215,39 @@ def rights(folder):
     return trials
 
 
-KINDS = (unheard, two_at_once, lengths, full_disks, rights)
+def requests(folder):
+    """Every thirteenth request for memory is refused in turn, each in a run of its own. Before the words are read that is told with status 2."""
+    trials = Trials(folder)
+    library = built_library(folder, "refuse", LIBRARY)
+    for words in [*LOOKS[:4], *CHANGES]:
+        for number in itertools.count(1, 13):
+            trials.put_disk()
+            env = {"LD_PRELOAD": library, "REFUSED": str(number)}
+            done = subprocess.run([XNFS, "disk", *words], cwd=folder, capture_output=True, timeout=PATIENCE, check=False, env=env)
+            told = done.stderr.replace(REFUSED, b"")
+            if told == done.stderr:
+                break
+            is_read = (done.returncode, told) != (2, b"error: out of memory\n")
+            is_well = trials.is_left(words, done.returncode)
+            trials.count(f"request {number} refused", words, done.returncode if is_read else 1, told if is_read else b"xnfs: no memory\n", is_well)
+    return trials
+
+
+def spaces(folder):
+    """Little address space, from 2 MiB on. Below some of it the system's loader doesn't start the program, which says so with status 127 or by a signal."""
+    trials = Trials(folder)
+    for quarters in range(8, 80, 6):
+        for words in [*LOOKS[:3], *CHANGES]:
+            trials.put_disk()
+            how = {"cwd": folder, "capture_output": True, "timeout": PATIENCE, "check": False, "preexec_fn": limit(resource.RLIMIT_AS, quarters << 18)}
+            done = subprocess.run([XNFS, "disk", *words], **how)
+            if done.returncode in (127, -signal.SIGSEGV, -signal.SIGKILL) and b"xnfs: " not in done.stderr:
+                trials.tally.count("not started")
+                continue
+            is_read = (done.returncode, done.stderr) != (2, b"error: out of memory\n")
+            status, told = (done.returncode, done.stderr) if is_read else (1, b"xnfs: no memory\n")
+            trials.count(f"{quarters} quarters of a MiB", words, status, told, trials.is_left(words, done.returncode))
+    return trials
+
+
+KINDS = (unheard, two_at_once, lengths, full_disks, rights, requests, spaces)
