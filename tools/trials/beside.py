@@ -4,7 +4,7 @@ Each of ROUNDS rounds (20) is a fresh volume and an empty folder, to which STEPS
 `cp -r`, `mv`, `rm`, `rm -r`, `rmdir`, `mkdir`, `mkdir -p`, `ln`, `ln -s`, `chmod`, `chown`, `touch`, `truncate`. A line has to be done where the system does
 the like, and else be refused with status 1 and change nothing. Behind every 25 lines `check` has to find the volume sound, and `get` has to bring out what the
 folder has: names, kinds, bytes, what symbolic links lead to, which names are one file, and modes, owners and times of files and folders. The last word is the
-SEED (1); the disks are of 1 to 16 MiB, so some lines find no space, after which a round ends. It is run as root, for the owners.
+SEED (1); the disks are of 250 KiB to 16 MiB: a line of a single file that finds no space has to change nothing, and behind any other the round ends. It is run as root, for the owners.
 """
 
 import collections
@@ -341,7 +341,7 @@ class Round:
         self.sources = write_sources(os.path.join(room, "sources"), rng)
         os.mkdir(os.path.join(room, "beside"))
         self.folder = Folder(os.path.join(room, "beside"), os.path.join(room, "sources"))
-        fresh(room, "disk", rng.choice([2_048, 8_192, 32_768]))
+        fresh(room, "disk", rng.choice([500, 2_048, 8_192, 32_768]))
         self.since, self.done, self.is_full = time.time_ns(), [], False
 
     def fault(self, *told):
@@ -366,10 +366,15 @@ class Round:
             self.is_full = True
 
     def line(self):
+        """A single line. One of a single file that finds no space has to change nothing."""
         words = self.words()
         status, out, told = run(XNFS, ["disk", *self.given(words)], self.room)
         if out:
             self.fault(words, "prints", out[:100])
+        if status == 1 and NO_SPACE.search(told) and not {"-r", "-p", "tree", "-R"} & set(words):
+            self.tally.count("without space")
+            self.done.append([*words, "(no space)"])
+            return
         self.ended(words, self.folder.do(words), status, told)
 
     def shell(self):
@@ -415,7 +420,7 @@ class Round:
                 self.rng.choice([self.line, self.line, self.line, self.shell])()
             if not self.is_full and not self.compare():
                 return
-        self.tally.count("full", self.is_full)
+        self.tally.count("ended without space", self.is_full)
 
 
 def short(found):
@@ -425,7 +430,7 @@ def short(found):
 
 def play(rounds=20, steps=250, seed=1):
     demand([], as_root=True)
-    rng, tally = random.Random(seed), Tally("rounds", "lines", "refused", "comparisons", "full")
+    rng, tally = random.Random(seed), Tally("rounds", "lines", "refused", "comparisons", "without space", "ended without space")
     os.umask(0o22)
     for _ in range(rounds):
         tally.count("rounds")

@@ -6,7 +6,7 @@ K + 1, for each K up to all of its writes. Each time the disk has to be sound by
 it is. Of a copy that the next opening has mended `check` has to find nothing, and each of its files has to be whole: of the lines that have answered all is
 there, of a lazy shell up to its last `sync` that has; what the next line does may be there or not, name by name. A part of the copies are mended by a run that is
 killed too. A fresh disk is made for every fifty runs that may be killed, and for every five that are stopped. Every second one is crowded: it has more inodes
-than inode 0 has pointers of its own, and more names in a folder than its inode has place for.
+than inode 0 has pointers of its own, and more names in a folder than its inode has place for. The last word is the SEED (1).
 """
 
 import collections
@@ -30,8 +30,8 @@ STOPPED = b"stopped before another block was written\n"
 class Disks:
     """A disk and what is known of it: its tree, and the counts of all runs."""
 
-    def __init__(self, folder):
-        self.folder, self.rng, self.tree = folder, random.Random(1), Tree()
+    def __init__(self, folder, seed):
+        self.folder, self.rng, self.tree = folder, random.Random(seed), Tree()
         self.tally, self.kinds = Tally("runs", "kills", "runs stopped", "stops", "openings killed", "unfinished copies"), collections.Counter()
 
     def start(self, is_crowded):
@@ -111,10 +111,10 @@ def stop_run(disks):
             return
 
 
-def play(kills=1000, stops=30):
+def play(kills=1000, stops=30, seed=1):
     with tempfile.TemporaryDirectory() as folder:
         write_sources(folder)
-        disks = Disks(folder)
+        disks = Disks(folder, seed)
         kill_runs(disks, kills)
         for number in range(stops):
             if number % 5 == 0:

@@ -49,7 +49,9 @@ class Tree:
         return (folder, name) if folder in self.names and name else None
 
     def goal(self, source, path):
-        """The place of what goes to a path, or into the folder that is there."""
+        """The place of what goes to a path, or into the folder that is there. Where a symbolic link leads is not asked here."""
+        if self.kind(path) == "link":
+            return None
         if self.kind(path) == "folder":
             return self.at(path), os.path.basename(source)
         return self.place(path)
@@ -163,9 +165,10 @@ class Tree:
         """Does a line; whether it can be done."""
         match words:
             case ["put", "folder", path]:
-                return self.put_folder(self.goal("folder", path))
+                place = self.goal("folder", path)
+                return place is not None and self.put_folder(place)
             case ["put", "-", path]:
-                return self.put_file(self.place(path), ("file", given, 0o644)) is not None
+                return self.put_file(self.goal("-", path), ("file", given, 0o644)) is not None and self.kind(path) != "folder"
             case ["put", source, path]:
                 return self.put_file(self.goal(source, path), ("file", {**SOURCES, **HOLES}[source], 0o644)) is not None
             case ["mkdir", "-p", path]:
