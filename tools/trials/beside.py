@@ -4,7 +4,8 @@ Each of ROUNDS rounds (20) is a fresh volume and an empty folder, to which STEPS
 `cp -r`, `mv`, `rm`, `rm -r`, `rmdir`, `mkdir`, `mkdir -p`, `ln`, `ln -s`, `chmod`, `chown`, `touch`, `truncate`. A line has to be done where the system does
 the like, and else be refused with status 1 and change nothing. Behind every 25 lines `check` has to find the volume sound, and `get` has to bring out what the
 folder has: names, kinds, bytes, what symbolic links lead to, which names are one file, and modes, owners and times of files and folders. The last word is the
-SEED (1); the disks are of 250 KiB to 16 MiB: a line of a single file that finds no space has to change nothing, and behind any other the round ends. It is run as root, for the owners.
+SEED (1); the disks are of 250 KiB to 16 MiB: a line of a single file that finds no space has to change nothing, and behind any other the round ends. It is run
+as root, for the owners.
 """
 
 import collections
@@ -263,7 +264,8 @@ def random_words(paths, rng, sources):
         lambda: ["mv", paths.folder(), paths.goal()], lambda: ["mv", paths.file(), paths.file()], lambda: ["cp", paths.any(), paths.goal()],
         lambda: ["cp", "-r", paths.any(), paths.goal()], lambda: ["ln", paths.file(), paths.goal()],
         lambda: ["ln", "-s", rng.choice(["a", "./b", "/nowhere", "ü" * 200, "long/" * 200]), paths.goal()],
-        lambda: ["chmod", rng.choice(MODES), paths.any()], lambda: ["chmod", rng.choice(["4755", "u+s", "2711"]), paths.file()], lambda: ["chmod", "-R", rng.choice(["u+rwx", "go-w"]), paths.folder()],
+        lambda: ["chmod", rng.choice(MODES), paths.any()], lambda: ["chmod", rng.choice(["4755", "u+s", "2711"]), paths.file()],
+        lambda: ["chmod", "-R", rng.choice(["u+rwx", "go-w"]), paths.folder()],
         lambda: ["chown", rng.choice(["7", "7:8", ":9", "0:0"]), paths.any()],
         lambda: ["touch", "-d", str(rng.randrange(2 * 10**9)), paths.any()], lambda: ["touch", paths.any()],
         lambda: ["truncate", "-s", str(rng.choice([*LENGTHS, 1_000_000])), paths.file()],

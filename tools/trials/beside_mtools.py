@@ -1,10 +1,9 @@
 """Measures `xnfs` beside mtools on a FAT image and debugfs on one of ext4, and prints a table.
 
 Of each: a folder of FILES small files (500) put and got, a file of 64 MB put and got, and a folder of 10,000 names listed. A row tells the seconds of the
-fastest of three runs, and by `strace` of one more how many syncs there were, how many seconds they took, and how many bytes were written to the image.
-mcopy, which takes minutes for 10,000 names, isn't asked for these. mtools sync
-nothing, and debugfs little, so what they wrote may be lost with the power; `xnfs` has it on the disk when it ends. It counts nothing as wrong but a program
-that fails; the seconds are those of a machine that does nothing else, and else say little.
+fastest of three runs, and by `strace` of one more how many syncs there were, how many seconds they took, and how many bytes were written to the image. mcopy,
+which takes minutes for 10,000 names, isn't asked for these. mtools sync nothing, and debugfs little, so what they wrote may be lost with the power; `xnfs`
+has it on the disk when it ends. It counts nothing as wrong but a program that fails; on a machine that does anything else the seconds say little.
 """
 
 import os
@@ -68,13 +67,16 @@ def rows(count):
     """What is measured, and the words of each program."""
     return {
         f"put of {count} small files": {
-            "xnfs": [XNFS, "xnfs", "put", "many", "/"], "mtools": ["mcopy", "-s", "-i", "mtools", "many", "::/"], "debugfs": ["debugfs", "-w", "-f", "many.script", "debugfs"],
+            "xnfs": [XNFS, "xnfs", "put", "many", "/"], "mtools": ["mcopy", "-s", "-i", "mtools", "many", "::/"],
+            "debugfs": ["debugfs", "-w", "-f", "many.script", "debugfs"],
         },
         f"get of {count} small files": {
-            "xnfs": [XNFS, "xnfs", "get", "/many", "out"], "mtools": ["mcopy", "-s", "-i", "mtools", "::/many", "out"], "debugfs": ["debugfs", "-R", "rdump /many out", "debugfs"],
+            "xnfs": [XNFS, "xnfs", "get", "/many", "out"], "mtools": ["mcopy", "-s", "-i", "mtools", "::/many", "out"],
+            "debugfs": ["debugfs", "-R", "rdump /many out", "debugfs"],
         },
         "put of 64 MB": {
-            "xnfs": [XNFS, "xnfs", "put", "large", "/"], "mtools": ["mcopy", "-i", "mtools", "large", "::/"], "debugfs": ["debugfs", "-w", "-R", "write large large", "debugfs"],
+            "xnfs": [XNFS, "xnfs", "put", "large", "/"], "mtools": ["mcopy", "-i", "mtools", "large", "::/"],
+            "debugfs": ["debugfs", "-w", "-R", "write large large", "debugfs"],
         },
         "get of 64 MB": {
             "xnfs": [XNFS, "xnfs", "get", "/large", "out/large"], "mtools": ["mcopy", "-i", "mtools", "::/large", "out/large"],

@@ -1,11 +1,11 @@
 """Puts folders into disks with `xnfs` as a new user would, gets them back, and compares them.
 
-A folder of files of all sizes, with holes, hard and symbolic links, modes, owners, times and odd names in UTF-8 is put and got back, by one line and by a shell:
-`diff -r --no-dereference` has to find nothing, and modes, owners, times, holes and which names are one file are compared. Names that are no UTF-8 are told and
-left out. One folder of 100 small files is put, listed, changed line by line and by a shell, repaired and got back. One that the disk is too small for has to end
-with a fault that names the limit, and to leave what was put by then whole and the disk sound; another disk is filled and emptied some times, and has as many free
-blocks then as before. A folder with thousands of names is filled, listed and emptied. On a terminal `put` and `get` of a folder tell how many files are done;
-elsewhere they print nothing. It is run as root, for the owners.
+A folder of files of all sizes, with holes, hard and symbolic links, modes, owners, times and odd names in UTF-8 is put and got back, by one line and by a
+shell: `diff -r --no-dereference` has to find nothing, and modes, owners, times, holes and which names are one file are compared. Names that are no UTF-8 are
+told and left out. One folder of 100 small files is put, listed, changed line by line and by a shell, repaired and got back. One that the disk is too small
+for has to end with a fault that names the limit, and to leave what was put by then whole and the disk sound; another disk is filled and emptied some times,
+and has as many free blocks then as before. A folder with thousands of names is filled, listed and emptied. On a terminal `put` and `get` of a folder tell how
+many files are done; elsewhere they print nothing. It is run as root, for the owners.
 """
 
 import filecmp
@@ -107,7 +107,8 @@ def write_odd(top, rng):
                 file.write(b"abc")
     with open(os.path.join(top, "nothing"), "wb") as file:
         file.truncate(10**6)
-    for name, target in (("link", "empty"), ("dangling", "no/such"), ("up", ".."), ("absolute", "/etc/passwd"), ("long", "x/" * 2000), ("tolink", "link"), ("self", "self")):
+    links = [("link", "empty"), ("dangling", "no/such"), ("up", ".."), ("absolute", "/etc/passwd"), ("long", "x/" * 2000), ("tolink", "link"), ("self", "self")]
+    for name, target in links:
         os.symlink(target, os.path.join(top, name))
     for one, other in (("length385", "empty/hard"), ("length385", "hard"), ("holes", "hardholes"), ("link", "hardlink")):
         os.link(os.path.join(top, one), os.path.join(top, other), follow_symlinks=False)
@@ -132,7 +133,8 @@ def odd_folder(folder):
     line(folder, "odd.disk", "cp", "-r", "/odd", "/copy")
     line(folder, "odd.disk", "get", "/copy", "odd.copied")
     compare(folder, "odd", "odd.copied")
-    line(folder, "odd.disk", "shell", given=b"put odd/. /odd\nput odd/. /copy\nmkdir /into\nmv /odd /into\nget /into/odd odd.moved\nget /copy/. odd.copied\nrm -r /copy\n")
+    lines = b"put odd/. /odd\nput odd/. /copy\nmkdir /into\nmv /odd /into\nget /into/odd odd.moved\nget /copy/. odd.copied\nrm -r /copy\n"
+    line(folder, "odd.disk", "shell", given=lines)
     compare(folder, "odd", "odd.moved")
     compare(folder, "odd", "odd.copied")
     told = line(folder, "odd.disk", "check")
@@ -151,7 +153,8 @@ def no_text(folder):
     os.symlink(b"\xff", os.path.join(top, b"link"))
     line(folder, "format", "notext.disk", "1M")
     told = line(folder, "notext.disk", "put", "notext", "/", status=1)
-    if line(folder, "notext.disk", "find", "/").split() != [b"/", b"/notext", b"/notext/text"] or b"\xff" in told or b"no text" not in told or b"link" not in told:
+    is_told = b"\xff" not in told and b"no text" in told and b"link" in told
+    if line(folder, "notext.disk", "find", "/").split() != [b"/", b"/notext", b"/notext/text"] or not is_told:
         raise Wrong("names that are no text", told)
     print(f"{len(NO_TEXT)} names and a link that are no text are left out: {told.decode().strip()}")
 
@@ -167,7 +170,8 @@ def changed_folder(folder):
     compare(folder, "many", "back")
     line(folder, "disk", "put", "many/file002.txt", "/many/file001.txt")
     line(folder, "disk", "rm", "/many/file099.txt")
-    lines = b"mkdir /many/new\nmv /many/file003.txt /many/new\ncp /many/file004.txt /many/new\nput many/file005.txt /many/new/5\nln /many/file006.txt /many/new/6\n"
+    lines = b"mkdir /many/new\nmv /many/file003.txt /many/new\ncp /many/file004.txt /many/new\nput many/file005.txt /many/new/5\n"
+    lines += b"ln /many/file006.txt /many/new/6\n"
     line(folder, "disk", "shell", "--lazy", given=lines)
     line(folder, "disk", "mv", "/many/below", "/many/under")
     many = os.path.join(folder, "many")
@@ -237,8 +241,8 @@ def filled_again(folder):
         file.truncate(90_000)
     free = None
     for number in range(6):
-        words = [["put", "again", "/x"], ["cp", "-r", "/x", "/y"], ["put", "again/holes", "/h"], ["truncate", "-s", "40000", "/x/file001.txt"], ["mkdir", "-p", "/a/b/c"]]
-        ended = [run(XNFS, ["again.disk", *it], folder)[0] for it in words]
+        words = [["put", "again", "/x"], ["cp", "-r", "/x", "/y"], ["put", "again/holes", "/h"], ["truncate", "-s", "40000", "/x/file001.txt"]]
+        ended = [run(XNFS, ["again.disk", *it], folder)[0] for it in [*words, ["mkdir", "-p", "/a/b/c"]]]
         for name in ("/x", "/y", "/h", "/a"):
             line(folder, "again.disk", "rm", "-rf", name)
         free = free or line(folder, "again.disk", "df")

@@ -4,9 +4,9 @@ A run is a random line or a random shell, also a lazy one, on a disk that the ru
 such runs take, or ends before; this goes on until KILLS (1,000) were killed. Then each of STOPPED (30) further runs ends by `--stop K` before its block write
 K + 1, for each K up to all of its writes. Each time the disk has to be sound by `xnsim check`, and the words that look have to end well on it and leave it as
 it is. Of a copy that the next opening has mended `check` has to find nothing, and each of its files has to be whole: of the lines that have answered all is
-there, of a lazy shell up to its last `sync` that has; what the next line does may be there or not, name by name. A part of the copies are mended by a run that is
-killed too. A fresh disk is made for every fifty runs that may be killed, and for every five that are stopped. Every second one is crowded: it has more inodes
-than inode 0 has pointers of its own, and more names in a folder than its inode has place for. The last word is the SEED (1).
+there, of a lazy shell up to its last `sync` that has; what the next line does may be there or not, name by name. A part of the copies are mended by a run
+that is killed too. A fresh disk is made for every fifty runs that may be killed, and for every five that are stopped. Every second one is crowded: it has
+more inodes than inode 0 has pointers of its own, and more names in a folder than its inode has place for. The last word is the SEED (1).
 """
 
 import collections

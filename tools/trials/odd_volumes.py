@@ -1,13 +1,13 @@
 """Plays all words of `xnfs` on volumes that no program of ours wrote.
 
-Each of IMAGES disks (2,000) is a good volume of trees in whose blocks one to four things were changed: modes, links, sizes, times, parents and types of inodes,
-the mark, the key and the word that says that it was closed, names, their lengths and where they lead (to folders above them, to nothing, to each other), names
-twice, pointers taken away, set twice or to free blocks, targets of links, random bytes in inodes, buckets or anywhere. One in eight is a volume of the first
-file system that is made by hand, with things wrong or rare in it. On each the words are played, with limits of time and memory. Looking words change no byte of
-the disk and no file outside of the target. No word ends by a signal or later than it may; nothing but 0 and 1 is ever a status, and 1 is told; what is printed is
-text without control bytes, and JSON where that is asked for; the store's check finds a disk that was sound sound after each word. A volume of the first file
-system is not changed. It is counted on how many disks that `check` finds damaged a word that changes something is done, and after how many of these `get` brings
-out less than before.
+Each of IMAGES disks (2,000) is a good volume of trees in whose blocks one to four things were changed: modes, links, sizes, times, parents and types of
+inodes, the mark, the key and the word that says that it was closed, names, their lengths and where they lead (to folders above them, to nothing, to each
+other), names twice, pointers taken away, set twice or to free blocks, targets of links, random bytes in inodes, buckets or anywhere. One in eight is a volume
+of the first file system that is made by hand, with things wrong or rare in it. On each the words are played, with limits of time and memory. Looking words
+change no byte of the disk and no file outside of the target. No word ends by a signal or later than it may; nothing but 0 and 1 is ever a status, and 1 is
+told; what is printed is text without control bytes, and JSON where that is asked for; the store's check finds a disk that was sound sound after each word. A
+volume of the first file system is not changed. It is counted on how many disks that `check` finds damaged a word that changes something is done, and after
+how many of these `get` brings out less than before.
 """
 
 import collections
@@ -31,7 +31,8 @@ SECONDS, MEMORY = 30, 400_000_000
 LONGEST = 1_000_000_000
 LOOKS = [
     ["ls"], ["ls", "-lR", "/"], ["ls", "--json", "-R"], ["tree"], ["tree", "/a"], ["cat", "/a"], ["cat", "/b"], ["stat", "/"], ["stat", "/a", "/l"],
-    ["stat", "--json", "/a/one"], ["df"], ["df", "--json"], ["find", "/"], ["find", "/", "--name", "*e*"], ["du"], ["du", "-s", "/a"], ["readlink", "/l", "/a/link"],
+    ["stat", "--json", "/a/one"], ["df"], ["df", "--json"], ["find", "/"], ["find", "/", "--name", "*e*"], ["du"], ["du", "-s", "/a"],
+    ["readlink", "/l", "/a/link"],
     ["get", "/", "room/out"], ["get", "/.", "room/out"], ["get", "/a", "room/out"], ["get", "/b", "-"], ["ls", "/b/a"], ["check"], ["check", "--json"],
 ]
 CHANGES = [

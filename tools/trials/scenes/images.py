@@ -144,7 +144,8 @@ def check_repairs_what_it_tells_to_be_mended():
         write("d.img", made.image)
         run(XNFS, "d.img", "check", "--repair")
         told = run(XNFS, "d.img", "check")
-        want(told.returncode == 0 and b"left" not in told.stdout, f"check --repair of a volume with {make.__name__}, which was closed, leaves: {told.stdout[:150]!r}")
+        is_whole = told.returncode == 0 and b"left" not in told.stdout
+        want(is_whole, f"check --repair of a volume with {make.__name__}, which was closed, leaves: {told.stdout[:150]!r}")
 
 
 @scene
@@ -184,7 +185,8 @@ def a_volume_of_the_first_file_system_is_read_and_not_changed():
     image[BLOCK * 7 : BLOCK * 7 + 6] = b"bytes\n"
     write("d.img", image)
     run(XNSIM, "check", "d.img", status=0)
-    want(run(XNFS, "d.img", "ls").stdout == b"hello\n" and run(XNFS, "d.img", "cat", "/hello").stdout == b"bytes\n", "a volume of the first file system is not read")
+    read_out = run(XNFS, "d.img", "ls").stdout, run(XNFS, "d.img", "cat", "/hello").stdout
+    want(read_out == (b"hello\n", b"bytes\n"), f"a volume of the first file system is not read: {read_out}")
     run(XNFS, "d.img", "get", "/", "out")
     want(read("out/hello") == b"bytes\n", "a volume of the first file system is not brought out")
     write("source", b"x")

@@ -232,7 +232,8 @@ def a_stop_of_mv_of_a_folder_leaves_one_name():
             found = [run(XNFS, "again.img", "tree", path).stdout for path in ("/top/d", "/to/e")]
             want(sorted(found) == [b"", b"f\nin/\n"], f"stopped after {count} writes, and mending after {first}: {found}")
         run(XNFS, "copy.img", "rm", "-r", "/top", status=0)
-        want(run(XNFS, "copy.img", "tree", "/to").stdout in (b"", b"e/\n  f\n  in/\n"), f"stopped after {count} writes: rm -r of the old folder empties the moved one")
+        moved = run(XNFS, "copy.img", "tree", "/to").stdout
+        want(moved in (b"", b"e/\n  f\n  in/\n"), f"stopped after {count} writes: rm -r of the old folder leaves of the moved one {moved}")
         leaks_nothing(count)
     want(seen > 0, "no stop left both names")
 
@@ -353,11 +354,12 @@ def a_file_with_trees_of_all_heights_is_cut():
             shutil.copy("d.img", "copy.img")
             ended = run(XNFS, "copy.img", "--stop", count, "truncate", "-s", size, "/a")
             leaks_nothing(count)
-            got = seen()
-            want(got in [(it, [place for place in places if place + 4 <= it]) for it in (whole_size, size)], f"cut to {size}, stopped after {count} writes: {got}")
+            got, wanted = seen(), [(it, [place for place in places if place + 4 <= it]) for it in (whole_size, size)]
+            want(got in wanted, f"cut to {size}, stopped after {count} writes: {got}")
             if ended.returncode == 0:
                 break
         run(XNFS, "copy.img", "truncate", "-s", whole_size, "/a", status=0)
         want(seen() == (whole_size, [place for place in places if place + 4 <= size]), f"cut to {size} and grown again: {seen()}")
         run(XNFS, "copy.img", "rm", "/a", status=0)
-        want(b"blocks free: 507 of 512" in run(XNFS, "copy.img", "df").stdout, f"what is left of a file that was cut to {size} and removed: {run(XNFS, 'copy.img', 'df').stdout!r}")
+        left = run(XNFS, "copy.img", "df").stdout
+        want(b"blocks free: 507 of 512" in left, f"what is left of a file that was cut to {size} and removed: {left!r}")

@@ -100,7 +100,8 @@ def files_with_several_names_are_put_as_they_are():
         done = run(XNFS, f"{blocks}.img", "put", "one/f", "two/f", "three/other", "four/g", "/d")
         got = run(XNFS, f"{blocks}.img", "cat", "/d/g").stdout
         is_refused = blocks == 200 and done.returncode == 1 and b"no space" in done.stderr
-        want(is_refused or got == read("four/g"), f"put on {blocks} blocks: status {done.returncode} {done.stderr[:80]!r}, g is other: {got == read('three/other')}")
+        told = f"status {done.returncode} {done.stderr[:80]!r}, g is other: {got == read('three/other')}"
+        want(is_refused or got == read("four/g"), f"put on {blocks} blocks: {told}")
         for folder in ("one", "two", "three", "four"):
             shutil.rmtree(folder)
 
@@ -115,7 +116,8 @@ def files_with_several_names_are_copied_as_they_are():
         done = run(XNFS, f"{blocks}.img", "cp", "-r", "/one/f", "/two/f", "/three/other", "/four/g", "/d")
         got = run(XNFS, f"{blocks}.img", "cat", "/d/g").stdout
         is_refused = blocks == 330 and done.returncode == 1 and b"no space" in done.stderr
-        want(is_refused or got == read("four/g"), f"cp -r on {blocks} blocks: status {done.returncode} {done.stderr[:80]!r}, g is other: {got == read('three/other')}")
+        told = f"status {done.returncode} {done.stderr[:80]!r}, g is other: {got == read('three/other')}"
+        want(is_refused or got == read("four/g"), f"cp -r on {blocks} blocks: {told}")
         for folder in ("one", "two", "three", "four"):
             shutil.rmtree(folder)
 
