@@ -4,7 +4,7 @@ Each of ROUNDS rounds (20) is a fresh volume and an empty folder, to which STEPS
 `cp -r`, `mv`, `rm`, `rm -r`, `rmdir`, `mkdir`, `mkdir -p`, `ln`, `ln -s`, `chmod`, `chown`, `touch`, `truncate`. A line has to be done where the system does
 the like, and else be refused with status 1 and change nothing. Behind every 25 lines `check` has to find the volume sound, and `get` has to bring out what the
 folder has: names, kinds, bytes, what symbolic links lead to, which names are one file, and modes, owners and times of files and folders. The last word is the
-SEED (1); the disks are of 250 KiB to 16 MiB: a line of a single file that finds no space has to change nothing, and behind any other the round ends. It is run
+SEED (1); the disks are of 150 KiB to 16 MiB: a line of a single file that finds no space has to change nothing, and behind any other the round ends. It is run
 as root, for the owners.
 """
 
@@ -343,7 +343,7 @@ class Round:
         self.sources = write_sources(os.path.join(room, "sources"), rng)
         os.mkdir(os.path.join(room, "beside"))
         self.folder = Folder(os.path.join(room, "beside"), os.path.join(room, "sources"))
-        fresh(room, "disk", rng.choice([500, 2_048, 8_192, 32_768]))
+        fresh(room, "disk", rng.choice([300, 600, 2_048, 32_768]))
         self.since, self.done, self.is_full = time.time_ns(), [], False
 
     def fault(self, *told):

@@ -29,6 +29,8 @@ from trials.tally import Tally
 SECONDS, MEMORY = 30, 400_000_000
 # No file of the system may become longer.
 LONGEST = 1_000_000_000
+# What is told of a volume of the first file system, also where all is well.
+FIRST = b"xnfs: d.img: a volume of the first library file system: get its files and put them in a new one\n"
 LOOKS = [
     ["ls"], ["ls", "-lR", "/"], ["ls", "--json", "-R"], ["tree"], ["tree", "/a"], ["cat", "/a"], ["cat", "/b"], ["stat", "/"], ["stat", "/a", "/l"],
     ["stat", "--json", "/a/one"], ["df"], ["df", "--json"], ["find", "/"], ["find", "/", "--name", "*e*"], ["du"], ["du", "-s", "/a"],
@@ -143,7 +145,7 @@ class Trials:
         status, out, err = self.play(["d.img", *words], given)
         if status not in (0, 1):
             self.fault(words, f"status {status}: {err[-200:]!r}", image)
-        if (status == 1) != bool(err):
+        if (status == 1) != bool(err) and not (status == 0 and err == FIRST):
             self.fault(words, f"status {status}, told: {err[:200]!r}", image)
         shown = err if words[0] == "cat" or words[-1] == "-" else out + err
         if any(byte < 32 and byte not in (9, 10) or byte == 127 for byte in shown):

@@ -81,6 +81,35 @@ def files_with_several_names_are_brought_out_as_they_are():
     want((read("out/f"), read("out/g")) == (b"two", b"one"), f"get of /one/f, /two/f and /three/g, the other name of /one/f: {read('out/f')}, {read('out/g')}")
 
 
+@scene
+def two_files_of_one_name_are_both_kept():
+    """Of two files that a line moves to the same name none is lost."""
+    fresh()
+    for folder in ("one", "two", "into"):
+        run(XNFS, "d.img", "mkdir", f"/{folder}", status=0)
+        write("source", folder.encode())
+        if folder != "into":
+            run(XNFS, "d.img", "put", "source", f"/{folder}/f", status=0)
+    done = run(XNFS, "d.img", "mv", "/one/f", "/two/f", "/into")
+    left = {run(XNFS, "d.img", "cat", path).stdout for path in ("/one/f", "/two/f", "/into/f")} - {b""}
+    want(left == {b"one", b"two"}, f"mv of two files of one name into a folder: status {done.returncode}, and what is left is {left}")
+
+
+@scene
+def folders_put_over_each_other_keep_the_last_files():
+    """As of three states of a folder, of which the first and the last have a file in common."""
+    for folder in ("one", "two", "three"):
+        os.mkdir(folder)
+        write(f"{folder}/f", folder.encode())
+    os.remove("three/f")
+    os.link("one/f", "three/f")
+    fresh()
+    run(XNFS, "d.img", "mkdir", "/all", status=0)
+    done = run(XNFS, "d.img", "put", "one/.", "two/.", "three/.", "/all")
+    got = run(XNFS, "d.img", "cat", "/all/f").stdout
+    want(got == b"one" and done.returncode == 0, f"put of three folders over each other: status {done.returncode}, {done.stderr!r}, the file is that of {got!r}")
+
+
 def two_that_are_one():
     """Folders of which one/f and four/g are one file, two/f takes its place, and for three/other it has to be given up first."""
     for folder in ("one", "two", "three", "four"):
