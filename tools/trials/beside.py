@@ -264,7 +264,7 @@ def random_words(paths, rng, sources):
         lambda: ["mv", paths.folder(), paths.goal()], lambda: ["mv", paths.file(), paths.file()], lambda: ["cp", paths.any(), paths.goal()],
         lambda: ["cp", "-r", paths.any(), paths.goal()], lambda: ["ln", paths.file(), paths.goal()],
         lambda: ["ln", "-s", rng.choice(["a", "./b", "/nowhere", "ü" * 200, "long/" * 200]), paths.goal()],
-        lambda: ["chmod", rng.choice(MODES), paths.any()], lambda: ["chmod", rng.choice(["4755", "u+s", "2711"]), paths.file()],
+        lambda: ["chmod", rng.choice(MODES), paths.any()], lambda: ["chmod", rng.choice(["4755", "u+s", "2711"]), rng.choice(paths.files or ["/no/such"])],
         lambda: ["chmod", "-R", rng.choice(["u+rwx", "go-w"]), paths.folder()],
         lambda: ["chown", rng.choice(["7", "7:8", ":9", "0:0"]), paths.any()],
         lambda: ["touch", "-d", str(rng.randrange(2 * 10**9)), paths.any()], lambda: ["touch", paths.any()],
