@@ -31,7 +31,9 @@ class Body:
 
 LOCKING, REAL, TAKING, REPLACING = (f"crates/system_files/src/{it}.rt" for it in ("locking", "real", "taking", "replacing"))
 LINES, MAIN = "crates/xnsim/src/files.rt", "crates/xnsim/src/main.rt"
-XNFS_LINE = "crates/xnfs_line/src/"
+XNFS_LINE, TREE_LINES, TREE_LOOKS, TREE_CHANGES, TREE_TRANSFERS = (
+    f"crates/{it}/src/" for it in ("xnfs_line", "tree_lines", "tree_looks", "tree_changes", "tree_transfers")
+)
 FOUND_BLOCK, OPENING, SHARED_FILE = (f"crates/file_disk/src/{it}.rt" for it in ("found_block", "opening", "shared_file"))
 BODIES = {
     "no_create_new": Body(
@@ -259,107 +261,78 @@ BODIES = {
         "    let Ok(_held) = hold_streams(&rt).map(|_| ()) else {",
         ["closed_streams_of_xnsim_take_no_file"],
     ),
-    "stored_name_not_tested": Body(
-        XNFS_LINE + "survey.rt", ["xnfs"],
-        "if *is_too_long || !is_name(name) {",
-        "if *is_too_long {",
-        ["get_stays_within_its_target"],
-    ),
-    "names_shown_raw": Body(
-        XNFS_LINE + "showing.rt", ["xnfs"],
-        "if c.is_control() {",
-        "if c == '\\u{0}' {",
-        ["names_are_printed_without_control_bytes"],
-    ),
-    "sizes_of_nameless_inodes_tested": Body(
-        XNFS_LINE + "survey.rt", ["xnfs"],
-        "(is_named && facts.size > facts.reach)",
-        "((is_named || !is_named) && facts.size > facts.reach)",
-        ["what_a_stop_leaves_is_good"],
-    ),
-    "last_flush_left_out_on_an_early_end": Body(
-        XNFS_LINE + "shell.rt", ["xnfs"],
-        "if !matches!(&ran, Ok((_, false))) {",
-        "if matches!(&ran, Ok((_, true))) {",
-        ["a_lazy_shell_that_ends_early_has_written_its_done_lines"],
-    ),
-    "flush_before_mv_left_out": Body(
-        XNFS_LINE + "carrying.rt", ["xnfs"],
-        "        Word::Remove { .. } => {\n",
-        "        Word::Move { .. } => true,\n        Word::Remove { .. } => {\n",
-        ["a_file_moved_into_a_new_folder_is_not_lost"],
-    ),
-    "rm_goes_with_mv": Body(
-        XNFS_LINE + "carrying.rt", ["xnfs"],
-        "volume.carried.kind == Some(Kind::TakenAway)",
-        "volume.carried.kind.is_some()",
-        ["a_file_that_is_moved_and_removed_is_never_emptied"],
-    ),
-    "all_words_share_a_flush": Body(
-        XNFS_LINE + "carrying.rt", ["xnfs"],
-        "if is_crowded || !may_join(volume, alloc, word, kind) {",
-        "if is_crowded {",
-        ["a_name_stands_once_after_each_stop"],
-    ),
-    "rm_of_one_of_two_names_goes_with_rm": Body(
-        XNFS_LINE + "carrying.rt", ["xnfs"],
-        "if is_crowded || !may_join(volume, alloc, word, kind) {",
-        "if is_crowded || (!matches!(word, Word::Remove { .. }) && !may_join(volume, alloc, word, kind)) {",
-        ["a_file_with_two_names_is_whole_or_gone"],
-    ),
-    "mkdir_in_a_folder_just_made": Body(
-        XNFS_LINE + "carrying.rt", ["xnfs"],
-        " && !self.folders.contains(&folder)",
-        "",
-        ["folders_that_a_lazy_shell_makes_are_never_lost"],
-    ),
-    "flush_between_levels_left_out": Body(
-        XNFS_LINE + "changing.rt", ["xnfs"],
-        "            flush(volume, alloc)?;\n            Ok(made)\n",
-        "            Ok(made)\n",
-        ["folders_made_at_once_leak_nothing"],
-    ),
-    "rmdir_goes_with_rm": Body(
-        XNFS_LINE + "carrying.rt", ["xnfs"],
-        "        Word::Remove { .. } => {\n",
-        "        Word::RemoveFolder { .. } => true,\n        Word::Remove { .. } => {\n",
-        ["a_folder_that_was_emptied_and_removed_leaks_nothing"],
-    ),
-    "two_names_not_looked_at": Body(
-        XNFS_LINE + "changing.rt", ["xnfs"],
-        "        has_one_name(volume, alloc, path.as_bytes(), place.folder, &node)?;\n",
-        "",
-        ["one_of_two_names_of_a_folder_is_taken_alone"],
-    ),
-    "not_good_and_changed": Body(
-        XNFS_LINE + "lines.rt", ["xnfs"],
-        "if !volume.survey.is_good() {",
-        "if volume.survey.faults() > 1_000 {",
-        ["a_volume_that_is_not_good_is_told_and_not_changed"],
-    ),
-    "mv_of_one_file_to_itself_refused": Body(
-        XNFS_LINE + "changing.rt", ["xnfs"],
-        "onto.is_some_and(|node| !node.is_directory)",
-        "onto.is_some_and(|other| !other.is_directory && other.number != node.number)",
-        ["a_stop_of_mv_is_ended_by_mv"],
-    ),
     "streams_of_xnfs_not_held": Body(
         "crates/xnfs/src/main.rt", ["xnfs"],
         "if file.as_raw_fd() >= STREAMS {",
         "if file.as_raw_fd() >= 0 {",
         ["a_closed_stream_is_never_the_disk"],
     ),
+    "names_shown_raw": Body(
+        TREE_LINES + "showing.rt", ["xnfs"],
+        "if c.is_control() {",
+        "if c == '\\u{0}' {",
+        ["names_are_printed_without_control_bytes"],
+    ),
+    "names_that_lead_elsewhere_brought_out": Body(
+        TREE_TRANSFERS + "naming.rt", ["xnfs"],
+        "        || name.contains(&b'/')\n",
+        "",
+        ["get_stays_within_its_target"],
+    ),
+    "not_closed_after_a_fault": Body(
+        XNFS_LINE + "lines.rt", ["xnfs"],
+        "    if opened.is_broken() {\n        return done;\n    }\n",
+        "    if opened.is_broken() || !matches!(&done, Ok(0)) {\n        return done;\n    }\n",
+        ["a_lazy_shell_writes_at_each_early_end"],
+    ),
+    "lines_of_a_shell_not_synced": Body(
+        XNFS_LINE + "shell.rt", ["xnfs"],
+        "    if shell.is_lazy || opened.is_broken() || crate::looking::is_looking(word) {\n",
+        "    if shell.is_lazy || opened.is_broken() || !matches!(word, Word::Sync) {\n",
+        ["a_line_of_a_shell_is_on_the_disk_once_it_has_answered"],
+    ),
     "links_below_a_source_followed": Body(
-        XNFS_LINE + "sources.rt", ["xnfs"],
-        "match entry.metadata() {",
-        "match fs::metadata(rt, &path) {",
+        TREE_TRANSFERS + "tree_in.rt", ["xnfs"],
+        "arriving.host.attributes(source.as_str())",
+        "arriving.host.attributes_through(source.as_str())",
         ["put_of_a_folder_follows_no_link"],
     ),
-    "links_below_a_target_followed": Body(
-        XNFS_LINE + "getting.rt", ["xnfs"],
-        "        Kind::Link => Reason::Link,\n",
-        "        Kind::Link => return Ok(true),\n",
+    "files_below_a_target_followed": Body(
+        TREE_TRANSFERS + "leaving.rt", ["xnfs"],
+        "            _ => self.bring_file(node, path, target, Links::Refused),",
+        "            _ => self.bring_file(node, path, target, Links::Followed),",
+        ["get_of_a_folder_replaces_no_file_that_a_link_leads_to"],
+    ),
+    "folders_below_a_target_followed": Body(
+        TREE_TRANSFERS + "tree_out.rt", ["xnfs"],
+        "            Kind::SymbolicLink => Err(not_written(alloc, target.as_bytes(), WriteFault::Link)),\n            Kind::File | Kind::Other",
+        "            Kind::SymbolicLink if target.is_empty() => Err(not_written(alloc, target.as_bytes(), WriteFault::Link)),\n"
+        "            Kind::SymbolicLink => Ok(()),\n            Kind::File | Kind::Other",
         ["get_of_a_folder_follows_no_link_below_its_target"],
+    ),
+    "damage_is_no_fault": Body(
+        TREE_LOOKS + "checking.rt", ["xnfs"],
+        "    if faults > 0 {\n",
+        "    if faults > 1_000 {\n",
+        ["a_top_folder_that_is_none_is_told"],
+    ),
+    "attributes_not_set": Body(
+        TREE_TRANSFERS + "leaving.rt", ["xnfs"],
+        "        if self.keeps_attributes {\n",
+        "        if self.keeps_attributes && node.is_folder() {\n",
+        ["get_gives_a_file_the_mode_and_the_time_that_it_has_in_the_volume"],
+    ),
+    "copy_with_holes_named_first": Body(
+        TREE_CHANGES + "sparse.rt", ["xnfs"],
+        "    copy_stretches(opened, alloc, copied, number, piece)?;\n    move_to_place(opened, alloc, copied, name)\n",
+        "    move_to_place(opened, alloc, copied, name)?;\n    copy_stretches(opened, alloc, copied, number, piece)\n",
+        ["a_copy_with_holes_has_its_name_once_it_is_whole"],
+    ),
+    "disk_put_into_itself": Body(
+        TREE_TRANSFERS + "tree_in.rt", ["xnfs"],
+        "        && disk.is_same(goods.attributes)\n",
+        "        && disk.is_same(goods.attributes)\n        && disk.size == 0\n",
+        ["the_disk_is_not_put_into_itself"],
     ),
 }
 

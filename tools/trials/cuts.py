@@ -2,11 +2,12 @@
 
 Each of RUNS runs (20) is a random line or a random shell, also a lazy one, on a disk that the runs before it have filled; `strace` records its
 writes and syncs, and what it prints. At each point of that record images are built with none, all and SUBSETS (30) random subsets of the writes since
-the last good sync kept. Each has to be sound by `xnsim check`, its names good, and each file whole: of the lines that have answered all is there, of a
-lazy shell up to its last `sync` that has; what the next line does may be there or not. After the last point, with status 0, all has to be there.
-One image in ten is repaired, which has to change no name and no file, and to leave no inode in use without a name. A fresh disk is made for every ten
-runs; every second one is crowded: it has three blocks of inodes and two of names in a folder, and most of its runs are lazy shells. A line on standard
-error tells each run.
+the last good sync kept. Each has to be sound by `xnsim check`. Once it was opened to be changed, `check` has to find nothing, and each file has to be whole: of
+the lines that have answered all is there, of a lazy shell up to its last `sync` that has; what the next line does may be there or not, name by name. After the
+last point, with status 0, all has to be there. Of one image in forty the opening that mends it is recorded too, and images are built of a crash in that. On one
+image in ten the words that look are tried before it is mended: they have to end well and to leave it as
+it is. A fresh disk is made for every ten runs; every second one is crowded: it has more inodes than inode 0 has pointers of its own, and most of its runs are
+lazy shells. The last word is the SEED (2). A line on standard error tells each run.
 """
 
 import collections
@@ -17,7 +18,7 @@ import subprocess
 import sys
 import tempfile
 
-from trials.disks import XNFS, crowd, found, fresh, is_repaired, is_sound, write_sources
+from trials.disks import XNFS, crowd, fresh, is_looked_at, is_sound, mended, write_sources
 from trials.lines import answered_by, random_run
 from trials.programs import demand, read, write
 from trials.tally import Tally
@@ -35,11 +36,11 @@ def bytes_of(text, count):
     return bytes.fromhex(text.replace("\\x", ""))[:count]
 
 
-def recorded(folder, trial):
+def recorded(folder, image, words, given=b""):
     """What a run does, in its order: block writes as pairs of offset and bytes, None for a sync, and what it prints as bytes."""
     subprocess.run(
-        ["strace", "-f", "-o", "trace", "-e", "trace=pwrite64,write,fsync,fdatasync", "-xx", "-s", str(LONGEST), XNFS, "disk", *trial.words],
-        cwd=folder, input=trial.given, stdout=subprocess.DEVNULL, check=True,
+        ["strace", "-f", "-o", "trace", "-e", "trace=pwrite64,write,fsync,fdatasync", "-xx", "-s", str(LONGEST), XNFS, image, *words],
+        cwd=folder, input=given, stdout=subprocess.DEVNULL, check=True,
     )
     events = []
     with open(os.path.join(folder, "trace"), encoding="ascii") as lines:
@@ -69,11 +70,22 @@ def subsets(writes, count, rng):
             yield [write for write in writes if rng.random() < 0.5]
 
 
+def cuts_of(image, events, count, rng):
+    """The images that a crash may leave before each sync of a record, and after the last."""
+    open_writes = []
+    for event in [*events, None]:
+        if event is None:
+            yield from (with_writes(image, kept) for kept in subsets(open_writes, count, rng))
+            image, open_writes = with_writes(image, open_writes), []
+        elif not isinstance(event, bytes):
+            open_writes.append(event)
+
+
 class Cuts:
     """A run's images, of which each is looked at once."""
 
-    def __init__(self, folder, trial, tally):
-        self.folder, self.trial, self.tally, self.seen = folder, trial, tally, set()
+    def __init__(self, folder, trial, tally, rng):
+        self.folder, self.trial, self.tally, self.rng, self.seen = folder, trial, tally, rng, set()
 
     def look(self, image, answered, is_after):
         """Looks at an image after so many lines have answered, or after all is done."""
@@ -81,24 +93,39 @@ class Cuts:
         if key in self.seen:
             return
         self.seen.add(key)
-        write(self.folder, "cut", image)
-        left = found(self.folder, "cut")
         self.tally.count("images")
-        if not is_sound(self.folder, "cut") or not (self.trial.leaves(left) if is_after else self.trial.may_leave(left, answered)):
-            self.tally.fault(self.trial.words, self.trial.lines, "answered", answered)
-        elif len(self.seen) % 10 == 0:
-            self.tally.count("repairs")
-            if not is_repaired(self.folder, "cut", left):
-                self.tally.fault("repair:", self.trial.words, self.trial.lines, "answered", answered)
+        self.look_at(image, answered, is_after, len(self.seen) % 10 == 0)
+        if len(self.seen) % 40 == 0:
+            write(self.folder, "cut", image)
+            for again in cuts_of(image, recorded(self.folder, "cut", ["sync"]), 3, self.rng):
+                self.tally.count("images of a second crash")
+                self.look_at(again, answered, is_after, False)
 
-    def take(self, image, events, count, rng):
+    def look_at(self, image, answered, is_after, is_seen_first):
+        """Looks at an image, also before it is mended where that is told."""
+        write(self.folder, "cut", image)
+        if not is_sound(self.folder, "cut"):
+            self.fault(image, ["not sound"], answered)
+        if is_seen_first:
+            self.tally.count("looked at")
+            if not is_looked_at(self.folder, "cut"):
+                self.fault(image, ["not looked at well"], answered)
+        if told := self.trial.odd(mended(self.folder, "cut", ["sync"]), None if is_after else answered):
+            self.fault(image, told, answered)
+
+    def fault(self, image, told, answered):
+        kept = f"/tmp/cut_{self.tally.wrong}.img"
+        write("/", kept, image)
+        self.tally.fault(*told[:3], f"(kept as {kept})", self.trial.words, self.trial.lines, "answered", answered)
+
+    def take(self, image, events, count):
         """Looks at all cuts of a record."""
         open_writes, printed = [], b""
         for event in [*events, "end"]:
             if isinstance(event, bytes):
                 printed += event
                 continue
-            for kept in subsets(open_writes, count, rng):
+            for kept in subsets(open_writes, count, self.rng):
                 self.look(with_writes(image, kept), answered_by(printed) if self.trial.is_shell() else 0, event == "end")
             if event is None:
                 image, open_writes = with_writes(image, open_writes), []
@@ -106,23 +133,24 @@ class Cuts:
                 open_writes.append(event)
 
 
-def play(runs=20, count=30):
+def play(runs=20, count=30, seed=2):
     demand(["strace"])
-    rng, kinds, most, tally = random.Random(2), collections.Counter(), 0, Tally("runs", "shells", "lines", "images", "repairs", "syncs")
+    rng, kinds, most = random.Random(seed), collections.Counter(), 0
+    tally = Tally("runs", "shells", "lines", "images", "images of a second crash", "looked at", "syncs")
     with tempfile.TemporaryDirectory() as folder:
         write_sources(folder)
         for number in range(runs):
             if number % 10 == 0:
-                fresh(folder, "disk", 640)
+                fresh(folder, "disk", 1024)
                 tree = crowd(folder, "disk", rng) if number % 20 == 0 else Tree()
             trial = random_run(tree, rng)
             kinds.update(trial.kinds())
             image = read(folder, "disk")
-            events = recorded(folder, trial)
+            events = recorded(folder, "disk", trial.words, trial.given)
             most = max(most, 0 if trial.is_shell() else events.count(None))
             for name, counted in {"runs": 1, "shells": trial.is_shell(), "lines": len(trial.lines), "syncs": events.count(None)}.items():
                 tally.count(name, counted)
-            Cuts(folder, trial, tally).take(image, events, count, rng)
+            Cuts(folder, trial, tally, rng).take(image, events, count)
             tree = trial.trees[-1]
             print(f"{' '.join(trial.words)}: {tally}", file=sys.stderr, flush=True)
     for kind, number in sorted(kinds.items()):

@@ -14,7 +14,7 @@ from trials.tally import DONE, NAMED_FAULT, Tally
 
 
 def play():
-    demand(["mount"], as_root=True)
+    demand(["mount", "cc"], as_root=True)
     tally = Tally(DONE, NAMED_FAULT)
     for name, kinds in (("xnsim", hostile_xnsim.KINDS), ("xnfs", hostile_xnfs.KINDS)):
         for kind in kinds:

@@ -1,25 +1,34 @@
 """Runs `xnfs` where the system or another process refuses it something: a part of `hostile`."""
 
+import itertools
 import os
 import re
 import resource
 import shutil
+import signal
 import subprocess
 
-from trials.disks import XNFS, found, fresh, is_sound, write_sources
-from trials.programs import PATIENCE, disk_in_memory, limit, outputs_refused, read, run, write
+from trials.disks import XNFS, fresh, is_sound, mended, write_sources
+from trials.memory import LIBRARY
+from trials.memory import TOLD as REFUSED_TOLD
+from trials.programs import PATIENCE, built_library, disk_in_memory, limit, outputs_refused, read, run, write
 from trials.tally import DONE, NAMED_FAULT, Tally
-from trials.tree import SOURCES, Run, Tree
+from trials.tree import SOURCES, Run, Tree, odd
 
+REFUSED = REFUSED_TOLD.encode() + b"\n"
 FAULT = re.compile(rb"xnfs: [^\n]+\n")
-MADE = [["mkdir", "/a"], ["put", "source3000", "/a/b"], ["put", "source100", "/c"]]
+MADE = [["mkdir", "/a"], ["put", "source3000a", "/a/b"], ["put", "source1a", "/c"], ["ln", "-s", "a/b", "/link"]]
 START = Tree()
 for made in MADE:
-    START.change(made, b"")
-LOOKS = [["ls"], ["ls", "-l"], ["tree"], ["cat", "/a/b"], ["stat", "/c"], ["df"], ["check"], ["graph"], ["get", "/c", "-"]]
+    START.change(made)
+LOOKS = [
+    ["ls"], ["ls", "-l"], ["ls", "--json"], ["tree"], ["cat", "/a/b"], ["stat", "/c"], ["df"], ["check"], ["get", "/c", "-"], ["readlink", "/link"], ["find"],
+    ["du"],
+]
 CHANGES = [
-    ["mkdir", "/d"], ["put", "source20000", "/d"], ["put", "source6144", "/c"], ["cp", "/a/b", "/d"], ["mv", "/c", "/d"], ["mv", "/c", "/a/b"],
-    ["rm", "/c"], ["rm", "-r", "/a"], ["check", "--repair"],
+    ["mkdir", "/d"], ["put", "source20000a", "/d"], ["put", "source8192a", "/c"], ["put", "holes", "/d"], ["cp", "/a/b", "/d"], ["cp", "-r", "/a", "/d"],
+    ["mv", "/c", "/d"], ["mv", "/c", "/a/b"], ["rm", "/c"], ["rm", "-r", "/a"], ["ln", "/c", "/d"], ["ln", "-s", "c", "/d"], ["chmod", "600", "/c"],
+    ["truncate", "-s", "9000", "/c"], ["touch", "-d", "1000000000", "/c"], ["sync"], ["check", "--repair"],
 ]
 
 
@@ -29,7 +38,7 @@ class Trials:
     def __init__(self, folder):
         self.folder, self.tally = folder, Tally(DONE, NAMED_FAULT)
         write_sources(folder)
-        fresh(folder, "kept", 64)
+        fresh(folder, "kept", 128)
         for words in MADE:
             if run(XNFS, ["kept", *words], folder)[0] != 0:
                 raise RuntimeError(words)
@@ -53,8 +62,7 @@ class Trials:
     def is_left(self, words, status):
         """Whether the disk has what a line may leave."""
         trial = Run(words, b"", [words], [START, self.after(words)])
-        left = found(self.folder, "disk")
-        return is_sound(self.folder, "disk") and (trial.leaves(left) if status == 0 else trial.may_leave(left, 0))
+        return is_sound(self.folder, "disk") and not trial.odd(mended(self.folder, "disk", ["sync"]), None if status == 0 else 0)
 
     def try_line(self, what, words, **how):
         """Runs a line on the disk as it was, under some refusal."""
@@ -82,7 +90,7 @@ def two_at_once(folder):
     """Another process has the disk open; then ten that start together: what each that was done has made is there, and nothing else."""
     trials = Trials(folder)
     with subprocess.Popen([XNFS, "disk", "shell"], cwd=folder, stdin=subprocess.PIPE, stdout=subprocess.PIPE) as holder:
-        holder.stdin.write(b"stat /\n")
+        holder.stdin.write(b"pwd\n")
         holder.stdin.flush()
         holder.stdout.readline()
         for words in [*LOOKS, *CHANGES]:
@@ -92,16 +100,16 @@ def two_at_once(folder):
         holder.wait()
     for number in range(20):
         trials.put_disk()
-        lines = [["put", "source513", f"/f{each}"] for each in range(10)]
+        lines = [["put", "source513a", f"/f{each}"] for each in range(10)]
         runs = [subprocess.Popen([XNFS, "disk", *words], cwd=folder, stderr=subprocess.PIPE) for words in lines]
         tree = START.copy()
         for words, each in zip(lines, runs):
             err = each.communicate()[1]
             trials.count(f"ten at once, {number}", words, each.returncode, err, True)
             if each.returncode == 0:
-                tree.change(words, b"")
-        left = found(folder, "disk")
-        if left is None or left.paths != tree.paths or not is_sound(folder, "disk"):
+                tree.change(words)
+        left = mended(folder, "disk", ["sync"])
+        if left is None or odd(left, [tree]) or not is_sound(folder, "disk"):
             trials.tally.fault("ten at once")
     return trials
 
@@ -125,14 +133,14 @@ def try_get(trials, what, **how):
     given = {"cwd": trials.folder, "stdin": subprocess.DEVNULL, "capture_output": True, "timeout": PATIENCE, **how}
     done = subprocess.run([XNFS, "disk", "get", "/a/b", "target"], check=False, **given)
     data = read(trials.folder, "target")
-    is_well = data == SOURCES["source3000"] if done.returncode == 0 else data == b"old"
+    is_well = data == SOURCES["source3000a"] if done.returncode == 0 else data == b"old"
     trials.count(what, ["get"], done.returncode, done.stderr, is_well and sorted(os.listdir(trials.folder)) == files)
 
 
 def lengths(folder):
     """No file may grow or be written past a length."""
     trials = Trials(folder)
-    for length in range(0, 64 * 512 + 513, 512):
+    for length in range(0, 128 * 512 + 513, 1024):
         for value in {length, max(length - 1, 0)}:
             start = limit(resource.RLIMIT_FSIZE, value)
             try_format(trials, folder, f"files of {value} bytes at most", preexec_fn=start)
@@ -163,7 +171,7 @@ def full_disks(folder):
             try_format(trials, inner, f"a disk of {pages} pages")
     for words in CHANGES:
         for pages in (0, 1, 2, 3):
-            with disk_in_memory(inner, "128k"):
+            with disk_in_memory(inner, "192k"):
                 with_holes(trials, inner, words, pages)
     return trials
 
@@ -174,7 +182,7 @@ def with_holes(trials, inner, words, pages):
     write(inner, "spare", bytes(4096 * pages))
     fill(inner)
     os.remove(os.path.join(inner, "spare"))
-    words = [f"../{word}" if word in SOURCES else word for word in words]
+    words = [f"../{word}" if word in SOURCES or word == "holes" else word for word in words]
     done = subprocess.run([XNFS, "disk", *words], cwd=inner, capture_output=True, timeout=PATIENCE, check=False)
     shutil.copy(os.path.join(inner, "disk"), os.path.join(trials.folder, "disk"))
     words = [os.path.basename(word) if word.startswith("../") else word for word in words]
@@ -197,14 +205,49 @@ def rights(folder):
             may_do = mode == 0o666 or (mode == 0o444 and words in LOOKS)
             is_right = trials.is_left(words, done.returncode) and (done.returncode == 0) == may_do
             trials.count(f"a disk of mode {mode:o}", words, done.returncode, done.stderr, is_right)
-    for words in [["format", "made", "64"], ["disk", "get", "/c", "target"], ["disk", "put", "hidden", "/h"]]:
+    for words in [["format", "made", "128"], ["disk", "get", "/c", "target"], ["disk", "put", "hidden", "/h"]]:
         trials.put_disk()
         os.chmod(os.path.join(folder, "disk"), 0o666)
-        shutil.copy(os.path.join(folder, "source100"), os.path.join(folder, "hidden"))
+        shutil.copy(os.path.join(folder, "source1a"), os.path.join(folder, "hidden"))
         os.chmod(os.path.join(folder, "hidden"), 0o600)
         done = subprocess.run([program, *words], **how)
-        trials.count("a folder of mode 755", words, done.returncode, done.stderr, done.returncode == 1 and trials.is_left(["graph"], 0))
+        trials.count("a folder of mode 755", words, done.returncode, done.stderr, done.returncode == 1 and trials.is_left(["sync"], 0))
     return trials
 
 
-KINDS = (unheard, two_at_once, lengths, full_disks, rights)
+def requests(folder):
+    """Every thirteenth request for memory is refused in turn, each in a run of its own. Before the words are read that is told with status 2."""
+    trials = Trials(folder)
+    library = built_library(folder, "refuse", LIBRARY)
+    for words in [*LOOKS[:4], *CHANGES]:
+        for number in itertools.count(1, 13):
+            trials.put_disk()
+            env = {"LD_PRELOAD": library, "REFUSED": str(number)}
+            done = subprocess.run([XNFS, "disk", *words], cwd=folder, capture_output=True, timeout=PATIENCE, check=False, env=env)
+            told = done.stderr.replace(REFUSED, b"")
+            if told == done.stderr:
+                break
+            is_read = (done.returncode, told) != (2, b"error: out of memory\n")
+            is_well = trials.is_left(words, done.returncode)
+            trials.count(f"request {number} refused", words, done.returncode if is_read else 1, told if is_read else b"xnfs: no memory\n", is_well)
+    return trials
+
+
+def spaces(folder):
+    """Little address space, from 2 MiB on. Below some of it the system's loader doesn't start the program, which says so with status 127 or by a signal."""
+    trials = Trials(folder)
+    for quarters in range(8, 80, 6):
+        for words in [*LOOKS[:3], *CHANGES]:
+            trials.put_disk()
+            how = {"cwd": folder, "capture_output": True, "timeout": PATIENCE, "check": False, "preexec_fn": limit(resource.RLIMIT_AS, quarters << 18)}
+            done = subprocess.run([XNFS, "disk", *words], **how)
+            if done.returncode in (127, -signal.SIGSEGV, -signal.SIGKILL) and b"xnfs: " not in done.stderr:
+                trials.tally.count("not started")
+                continue
+            is_read = (done.returncode, done.stderr) != (2, b"error: out of memory\n")
+            status, told = (done.returncode, done.stderr) if is_read else (1, b"xnfs: no memory\n")
+            trials.count(f"{quarters} quarters of a MiB", words, status, told, trials.is_left(words, done.returncode))
+    return trials
+
+
+KINDS = (unheard, two_at_once, lengths, full_disks, rights, requests, spaces)

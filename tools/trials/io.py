@@ -2,7 +2,7 @@
 
 Each of LINES (12) is a random line on a disk that the lines before it have filled. A run in which a call fails has to end with
 status 1 and one line on standard error that names the fault, or with status 0 and all done. Then the disk has to be sound by
-`xnsim check`, its names good, and each file as it was before the line or as it is after it.
+`xnsim check`, and once it was opened again to be changed `check` has to find nothing, and each file has to be as it was before the line or as it is after it.
 
 Calls fail by a library of a few lines in C that is loaded before the C library. So a C compiler has to be there.
 """
@@ -15,7 +15,7 @@ import shutil
 import subprocess
 import tempfile
 
-from trials.disks import XNFS, found, fresh, is_sound, write_sources
+from trials.disks import XNFS, fresh, is_sound, mended, write_sources
 from trials.lines import random_line
 from trials.programs import PATIENCE, built_library, demand
 from trials.tally import Tally
@@ -77,15 +77,16 @@ class Failures:
         self.folder, self.library = folder, built_library(folder, "fail", LIBRARY)
         self.faults, self.tally = set(), Tally("lines", "failed calls", "lines done all the same")
 
-    def is_right(self, status, told, run):
-        left = found(self.folder, "disk")
-        if not is_sound(self.folder, "disk") or left is None:
-            return False
+    def odd(self, status, told, run):
+        """What is wrong with how a line ended, and with what it left."""
+        if not is_sound(self.folder, "disk"):
+            return ["not sound"]
+        left = mended(self.folder, "disk", ["sync"])
         if status == 0:
             self.tally.count("lines done all the same")
-            return run.leaves(left) and not told
-        self.faults.add(told.strip())
-        return status == 1 and FAULT.fullmatch(told) is not None and run.may_leave(left, 0)
+            return run.odd(left) + ["told"] * bool(told)
+        self.faults.add(re.sub(r"/\S*:", "PATH:", told.strip()))
+        return run.odd(left, 0) + ["not told in a line"] * (status != 1 or FAULT.fullmatch(told) is None)
 
     def take(self, run):
         """Fails each call of a line in turn, each time on the disk as it was before it. Leaves the disk as after the line."""
@@ -98,8 +99,8 @@ class Failures:
             if not is_met:
                 return
             self.tally.count("failed calls")
-            if not self.is_right(status, told, run):
-                self.tally.fault(run.words, "call", number, "status", status, told)
+            if odd := self.odd(status, told, run):
+                self.tally.fault(*odd[:3], run.words, "call", number, "status", status, told)
 
 
 def play(lines=12):
@@ -107,10 +108,10 @@ def play(lines=12):
     rng, tree = random.Random(5), Tree()
     with tempfile.TemporaryDirectory() as folder:
         write_sources(folder)
-        fresh(folder, "disk", 400)
+        fresh(folder, "disk", 600)
         failures = Failures(folder)
         for _ in range(lines):
-            words, after = random_line(tree, rng, 200)
+            words, after = random_line(tree, rng, 300)
             failures.take(Run(words, b"", [words], [tree, after]))
             tree = after
     for fault in sorted(failures.faults):

@@ -1,12 +1,12 @@
 """Kills runs of `xnfs`, and looks at what they leave.
 
-A run is a random line or a random shell, also a lazy one, on a disk that the runs before it have filled. It is killed after a random part of the time that such
-runs take, or ends before; this goes on until KILLS (1,000) were killed. Then each of STOPPED (30) further runs ends by `--stop K` before its block write K + 1,
-for each K up to all of its writes. Each time the disk has to be sound by `xnsim check`, its names good, and each file whole: of the lines that have answered
-all is there, of a lazy shell up to its last `sync` that has; what the next line does may be there or not. Now and then the disk is repaired, which has to
-change no name and no file, and to leave nothing to repair, and no inode in use without a name. A fresh disk is made for every fifty runs that may be killed,
-and for every five that are stopped. Every second one is crowded: it has three blocks of inodes and two of names in a folder, and most of its runs are lazy
-shells.
+A run is a random line or a random shell, also a lazy one, on a disk that the runs before it have filled. It is killed after a random part of the time that
+such runs take, or ends before; this goes on until KILLS (1,000) were killed. Then each of STOPPED (30) further runs ends by `--stop K` before its block write
+K + 1, for each K up to all of its writes. Each time the disk has to be sound by `xnsim check`, and the words that look have to end well on it and leave it as
+it is. Of a copy that the next opening has mended `check` has to find nothing, and each of its files has to be whole: of the lines that have answered all is
+there, of a lazy shell up to its last `sync` that has; what the next line does may be there or not, name by name. A part of the copies are mended by a run
+that is killed too. A fresh disk is made for every fifty runs that may be killed, and for every five that are stopped. Every second one is crowded: it has
+more inodes than inode 0 has pointers of its own, and more names in a folder than its inode has place for. The last word is the SEED (1).
 """
 
 import collections
@@ -18,7 +18,7 @@ import subprocess
 import tempfile
 import time
 
-from trials.disks import XNFS, crowd, found, fresh, is_repaired, is_sound, write_sources
+from trials.disks import XNFS, crowd, fresh, is_looked_at, is_sound, mended, remove_unfinished, write_sources
 from trials.lines import answered_by, random_run
 from trials.programs import run, write
 from trials.tally import Tally
@@ -30,9 +30,9 @@ STOPPED = b"stopped before another block was written\n"
 class Disks:
     """A disk and what is known of it: its tree, and the counts of all runs."""
 
-    def __init__(self, folder):
-        self.folder, self.rng, self.tree = folder, random.Random(1), Tree()
-        self.tally, self.kinds = Tally("runs", "kills", "runs stopped", "stops", "repairs"), collections.Counter()
+    def __init__(self, folder, seed):
+        self.folder, self.rng, self.tree = folder, random.Random(seed), Tree()
+        self.tally, self.kinds = Tally("runs", "kills", "runs stopped", "stops", "openings killed", "unfinished copies"), collections.Counter()
 
     def start(self, is_crowded):
         fresh(self.folder, "disk")
@@ -40,17 +40,24 @@ class Disks:
 
     def look(self, trial, status, out, err):
         """Looks at what a run has left; a status is that of one that ended by itself."""
-        left = found(self.folder, "disk")
+        is_kept = is_sound(self.folder, "disk") and (self.rng.random() < 0.5 or is_looked_at(self.folder, "disk"))
+        if self.rng.random() < 0.2:
+            self.tally.count("openings killed")
+            run(XNFS, ["--stop", str(self.rng.randrange(12)), "disk", "sync"], self.folder)
+        left = mended(self.folder, "disk", self.rng.choice([["check", "--repair"], ["sync"]]))
         answered = answered_by(out) if trial.is_shell() else 0
-        is_well = trial.leaves(left) if status == 0 else trial.may_leave(left, answered)
+        odd = trial.odd(left, None if status == 0 else answered)
         is_told = not err or (status == 1 and err.endswith(STOPPED))
-        if not (is_well and is_told and is_sound(self.folder, "disk")):
-            self.tally.fault(trial.words, trial.lines, "status", status, "answered", answered, err.decode())
+        if odd or not is_told or not is_kept:
+            kept = f"/tmp/killed_{self.tally.wrong}.img"
+            shutil.copy(os.path.join(self.folder, "disk"), kept)
+            told = odd or ["not told" if is_kept else "not sound, or not looked at well"]
+            self.tally.fault(*told[:3], f"(kept as {kept})", trial.words, trial.lines, "status", status, "answered", answered, err.decode())
         self.tree = left or Tree()
-        if left is not None and self.rng.random() < 0.3:
-            self.tally.count("repairs")
-            if not is_repaired(self.folder, "disk", left):
-                self.tally.fault("repair:", trial.words)
+        if left is None:
+            self.start(False)
+        elif answered < len(trial.lines):
+            self.tally.count("unfinished copies", remove_unfinished(self.folder, "disk"))
 
 
 def killed(folder, trial, delay):
@@ -93,7 +100,7 @@ def stop_run(disks):
     shutil.copy(disk, kept)
     before = disks.tree
     trial = random_run(before, disks.rng)
-    while set(trial.kinds()) <= {"graph", "sync", "check --repair"}:
+    while set(trial.kinds()) <= {"sync", "check --repair"}:
         trial = random_run(before, disks.rng)
     for writes in itertools.count():
         shutil.copy(kept, disk)
@@ -104,10 +111,10 @@ def stop_run(disks):
             return
 
 
-def play(kills=1000, stops=30):
+def play(kills=1000, stops=30, seed=1):
     with tempfile.TemporaryDirectory() as folder:
         write_sources(folder)
-        disks = Disks(folder)
+        disks = Disks(folder, seed)
         kill_runs(disks, kills)
         for number in range(stops):
             if number % 5 == 0:

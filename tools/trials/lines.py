@@ -1,60 +1,70 @@
 """Random lines and shells of `xnfs`."""
 
-import os
-
 from trials.tree import LENGTHS, SOURCES, Run
 
-NAMES = ["a", "b", "c", "notes.txt", "data"]
-# What a crowded volume has: more inodes than three blocks of them hold, and more names in a folder than a block of entries does.
-CROWD = [f"f{number}" for number in range(14, 31)]
+# Two of the last ones fill the place of names in a folder's inode.
+NAMES = ["a", "b", "c", "notes.txt", "l" * 120, "m" * 200]
+# What a crowded volume has: more numbers than inode 0 has pointers of its own, and more names in a folder than its inode has place for.
+CROWD = [f"f{number}" + "x" * (number % 5 * 30) for number in range(30)]
 # The line of a shell behind each other one, which prints one line: so what is printed tells how many lines have answered.
-MARK = "stat /"
+MARK = "pwd"
+SIZES = ["0", "100", "384", "513", "9000", "30000"]
 
 
-def random_words(tree, rng, is_lazy):
-    """The words of a line that mostly can be done. In a lazy shell no folder gets another name: what is below it may be found under the old one."""
-    folders = [""] + [path for path in tree.paths if tree.is_folder(path)]
-    files = [path for path in tree.paths if tree.is_file(path)]
-    path = rng.choice(folders) + "/" + rng.choice(NAMES + CROWD[-3:] if len(tree.paths) >= 20 else NAMES)
+def random_words(tree, rng):
+    """The words of a line that mostly can be done."""
+    paths = list(tree.walk())
+    folders = ["", *(path for path, number in paths if number in tree.names)]
+    files = [path for path, number in paths if tree.things[number][0] == "file"]
+    links = [path for path, number in paths if tree.things[number][0] == "link"]
+    path = f"{rng.choice(folders)}/{rng.choice(NAMES + CROWD[-3:] if len(paths) >= 20 else NAMES)}"
     file = rng.choice(files) if files else path
-    goal = rng.choice([path, path, file])
-    folder = rng.choice(folders)
-    choices = [
-        ["put", rng.choice(list(SOURCES)), goal], ["put", rng.choice(list(SOURCES)), goal], ["put", "folder", path], ["mkdir", path],
-        ["mkdir", "-p", f"{path}/{rng.choice(NAMES)}"], ["rm", file], ["rm", "-r", folder or path], ["rmdir", folder or path],
-        ["mv", file, goal], ["mv", rng.choice(files or [path]), goal], ["cp", file, goal], ["check", "--repair"], ["graph"],
-    ]
-    choices += [["sync"]] if is_lazy else [["mv", folder or path, f"{os.path.dirname(folder)}/{rng.choice(NAMES)}"]]
-    return rng.choice(choices)
+    goal, folder, other = rng.choice([path, path, file]), rng.choice(folders) or path, rng.choice(folders) or "/"
+    return rng.choice([
+        ["put", rng.choice(list(SOURCES)), goal], ["put", rng.choice(list(SOURCES)), goal], ["put", "folder", path], ["put", "holes", goal],
+        ["mkdir", path], ["mkdir", "-p", f"{path}/{rng.choice(NAMES)}/{rng.choice(NAMES)}"], ["rm", file], ["rm", rng.choice(links or files or [path])],
+        ["rm", "-r", folder], ["rmdir", folder], ["mv", file, goal], ["mv", rng.choice(files or [path]), goal], ["mv", file, other], ["mv", folder, path],
+        ["mv", folder, other], ["cp", file, goal], ["cp", "-r", folder, path], ["ln", file, path], ["ln", "-s", file, path], ["sync"], ["check", "--repair"],
+        ["chmod", rng.choice(["600", "640", "755"]), file], ["truncate", "-s", rng.choice(SIZES), file], ["touch", "-d", "1000000000", file],
+    ])
 
 
-def random_line(tree, rng, most, is_lazy=False):
+def is_small(tree, most):
+    """Whether a tree takes at most so many blocks, and not too many names."""
+    return tree.blocks() < most and len(list(tree.walk())) < 80
+
+
+def random_line(tree, rng, most):
     """The words of a line that a tree takes, and the tree after it, which takes at most so many blocks."""
     while True:
-        words = random_words(tree, rng, is_lazy)
-        if max(word.count("/") for word in words) > 4:
+        words = random_words(tree, rng)
+        if max(word.count("/") for word in words) > 5:
             continue
         after = tree.after(words)
-        if after is not None and after.blocks() < most and len(after.paths) < 80:
+        if after is not None and is_small(after, most):
             return words, after
 
 
 def close_lines(tree, rng):
     """Lines that work on what the one before them has just made or moved, as a lazy shell might keep them all until one flush."""
-    files = [path for path in tree.paths if tree.is_file(path) and path.count("/") < 3] or ["/a"]
-    folders = [path for path in tree.paths if tree.is_folder(path) and path.count("/") < 3] or ["/z"]
-    file, folder, name = rng.choice(files), rng.choice(folders), rng.choice(NAMES)
-    own, made = os.path.basename(file), f"{rng.choice(['', folder])}/{name}"
+    paths = [path for path, _ in tree.walk() if path.count("/") < 3]
+    file = rng.choice([path for path in paths if tree.kind(path) == "file"] or ["/a"])
+    folder = rng.choice([path for path in paths if tree.kind(path) == "folder"] or ["/z"])
+    own, made = file.rpartition("/")[2], f"{rng.choice(['', folder])}/{rng.choice(NAMES)}"
     return rng.choice([
-        [["mkdir", made], ["mv", file, f"{made}/{own}"], ["rm", f"{made}/{own}"]],
-        [["mkdir", f"{folder}/{name}"], ["mv", file, f"{folder}/{own}"]],
-        [["mkdir", made], ["put", "source45000", f"{made}/big"], ["mv", f"{made}/big", f"{folder}/big"], ["put", "source100", f"{folder}/big"]],
-        [["mkdir", made], ["mkdir", f"{made}/b"], ["mkdir", f"{made}/b/c"]],
-        [["mkdir", "-p", f"{made}/b/c"]],
-        [["mkdir", made], ["put", "source1", f"{made}/x"], ["sync"], ["rm", f"{made}/x"], ["rmdir", made]],
-        [["rm", file], ["mkdir", file]],
-        [["mv", file, f"{folder}/{name}"], ["mkdir", file]],
-        [["put", "source30000", made], ["sync"], ["mv", made, f"{folder}/{own}x"], ["rm", f"{folder}/{own}x"]],
+        [["mkdir", made], ["mv", file, made], ["rm", f"{made}/{own}"]],
+        [["mkdir", made], ["mv", file, made], ["mv", folder, f"{folder}q"]],
+        [["mkdir", made], ["put", "source75000a", f"{made}/big"], ["mv", f"{made}/big", f"{folder}/big"], ["put", "source384a", f"{folder}/big"]],
+        [["mkdir", made], ["mkdir", f"{made}/b"], ["mkdir", f"{made}/b/c"], ["mv", f"{made}/b/c", "/"]],
+        [["mkdir", made], ["put", "source1a", f"{made}/x"], ["sync"], ["rm", f"{made}/x"], ["rmdir", made]],
+        [["rm", file], ["mkdir", file], ["rmdir", file], ["put", "source3000a", file]],
+        [["mv", file, f"{file}q"], ["put", "source8193a", file], ["rm", f"{file}q"]],
+        [["put", "source8193b", f"{folder}/new"], ["mv", f"{folder}/new", file]],
+        [["ln", file, made], ["rm", file], ["ln", made, file], ["rm", made]],
+        [["ln", file, made], ["mv", made, folder], ["rm", file]],
+        [["truncate", "-s", "100", file], ["truncate", "-s", "30000", file], ["mv", file, made]],
+        [["cp", "-r", folder, made], ["rm", "-r", folder], ["mv", made, folder]],
+        [["mv", folder, made], ["put", "source513c", f"{made}/new"], ["rm", "-r", made]],
     ])
 
 
@@ -69,35 +79,32 @@ def close_run(tree, rng, most):
     is_lazy, lines, trees = rng.random() < 0.8, [], [tree]
     for _ in range(rng.choice([1, 1, 2])):
         for words in close_lines(trees[-1], rng):
-            if words == ["sync"] and not is_lazy:
-                continue
             after = trees[-1].after(words)
-            if after is None or after.blocks() >= most or len(after.paths) >= 80:
+            if after is None or not is_small(after, most):
                 return None
             lines.append(words)
             trees.append(after)
     return shell_of(is_lazy, lines, trees)
 
 
-def random_run(tree, rng, most=300):
+def random_run(tree, rng, most=600):
     """A line that a tree takes, or a shell of some. In a crowded volume half of the runs are shells whose lines work on what the one before has made."""
-    is_crowded = len(tree.paths) >= 20
-    if is_crowded and rng.random() < 0.5 and (run := close_run(tree, rng, most)):
+    is_crowded = len(list(tree.walk())) >= 20
+    if rng.random() < (0.5 if is_crowded else 0.2) and (run := close_run(tree, rng, most)):
         return run
     form = rng.choice(["line", "shell", "lazy", "lazy"] if is_crowded else ["line", "line", "input", "shell", "lazy"])
     if form == "line":
         words, after = random_line(tree, rng, most)
         return Run(words, b"", [words], [tree, after])
     if form == "input":
-        given = rng.randbytes(rng.choice(LENGTHS))
-        words = ["put", "-", "/" + rng.choice(NAMES)]
+        given, words = rng.randbytes(rng.choice(LENGTHS)), ["put", "-", "/" + rng.choice(NAMES)]
         after = tree.after(words, given)
-        if after is None or after.blocks() >= most:
+        if after is None or not is_small(after, most):
             return random_run(tree, rng, most)
         return Run(words, given, [words], [tree, after])
     lines, trees = [], [tree]
     for _ in range(rng.randrange(2, 12)):
-        words, after = random_line(trees[-1], rng, most, form == "lazy")
+        words, after = random_line(trees[-1], rng, most)
         lines.append(words)
         trees.append(after)
     return shell_of(form == "lazy", lines, trees)
@@ -105,4 +112,4 @@ def random_run(tree, rng, most=300):
 
 def answered_by(out):
     """How many lines of a shell have answered, by what it has printed."""
-    return sum(line.startswith(b"folder inode 1 ") for line in out.split(b"\n")[:-1])
+    return out.split(b"\n")[:-1].count(b"/")

@@ -1,126 +1,224 @@
-"""What a volume may have: a model of its files and folders, and of what a line or a shell of `xnfs` may leave at any moment."""
+"""What a volume may have: a model of its files, folders and links, and of what a line or a shell of `xnfs` may leave at any moment."""
 
 import os
 import random
 from dataclasses import dataclass
 
-LENGTHS = [0, 1, 100, 511, 512, 513, 3000, 6144, 6145, 20000, 30000, 45000, 71680]
-# Files of the system, by their names: one of each length, and those of a folder.
-SOURCES = {f"source{length}": random.Random(length).randbytes(length) for length in LENGTHS}
+LENGTHS = [0, 1, 383, 384, 385, 512, 513, 3000, 8192, 8193, 20_000, 75_000]
+# Files of the system, by their names: some of each length, and those of a folder.
+SOURCES = {f"source{length}{letter}": random.Random(f"{length}{letter}").randbytes(length) for length in LENGTHS for letter in "abc"}
 IN_FOLDER = {"one": b"1" * 600, "two": b"2" * 20, "below/three": b"3" * 1500}
+HOLES = {"holes": b"a" * 5000 + bytes(80_000) + b"b" * 3000}
+TOP = 1
 
 
 class Tree:
-    """The files and folders of a volume, by their paths: bytes of a file, None of a folder. Each file that is made has a number of its own."""
+    """The names of each folder by its number, and what each number is: a file with its bytes and its mode, a symbolic link, or a folder with its mode."""
 
-    made = 0
+    made = TOP
 
-    def __init__(self, paths=None, numbers=None):
-        self.paths = dict(paths or {})
-        self.numbers = dict(numbers or {})
+    def __init__(self, names=None, things=None):
+        self.names = {folder: dict(inside) for folder, inside in (names or {TOP: {}}).items()}
+        self.things = dict(things or {TOP: ("folder", None)})
 
     def copy(self):
-        return Tree(self.paths, self.numbers)
+        return Tree(self.names, self.things)
 
-    def below(self, path):
-        return [other for other in self.paths if other.startswith(path + "/")]
+    def walk(self, folder=TOP, path=""):
+        """All paths below a folder, with their numbers."""
+        for name, number in sorted(self.names[folder].items()):
+            yield f"{path}/{name}", number
+            if number in self.names:
+                yield from self.walk(number, f"{path}/{name}")
 
-    def is_folder(self, path):
-        return path in ("", "/") or (path in self.paths and self.paths[path] is None)
+    def at(self, path):
+        """The number to which a path leads."""
+        number = TOP
+        for name in filter(None, path.split("/")):
+            number = self.names.get(number, {}).get(name)
+        return number
 
-    def is_file(self, path):
-        return self.paths.get(path) is not None
+    def kind(self, path):
+        number = self.at(path)
+        return self.things[number][0] if number else None
 
-    def may_have(self, path):
-        """Whether a file can be made at a path."""
-        return self.is_folder(os.path.dirname(path)) and not self.is_folder(path)
+    def place(self, path):
+        """The folder of a path, and its name there."""
+        above, _, name = path.rpartition("/")
+        folder = self.at(above)
+        return (folder, name) if folder in self.names and name else None
 
-    def set_file(self, path, data):
+    def goal(self, source, path):
+        """The place of what goes to a path, or into the folder that is there. Where a symbolic link leads is not asked here."""
+        if self.kind(path) == "link":
+            return None
+        if self.kind(path) == "folder":
+            return self.at(path), os.path.basename(source)
+        return self.place(path)
+
+    def make(self, place, thing):
+        """Has a name lead to something new."""
         Tree.made += 1
-        self.paths[path], self.numbers[path] = data, Tree.made
+        folder, name = place
+        self.names[folder][name], self.things[Tree.made] = Tree.made, thing
+        if thing[0] == "folder":
+            self.names[Tree.made] = {}
+        return Tree.made
+
+    def may_replace(self, place, is_folder, number=None):
+        """Whether something may take a name."""
+        other = place and self.names[place[0]].get(place[1])
+        return place is not None and (other is None or (other != number and (self.things[other][0] == "folder") == is_folder))
+
+    def folder_at(self, place, mode):
+        """The folder of a name, which is made where none is."""
+        if not self.may_replace(place, True):
+            return None
+        return self.names[place[0]].get(place[1]) or self.make(place, ("folder", mode))
+
+    def put_file(self, place, thing):
+        if self.may_replace(place, False):
+            return self.make(place, thing)
+        return None
+
+    def put_folder(self, place):
+        """`put` of the folder of the system."""
+        folder = self.folder_at(place, 0o755)
+        below = folder and self.folder_at((folder, "below"), 0o755)
+        if not below:
+            return False
+        self.things[folder] = self.things[below] = "folder", 0o755
+        return all(self.put_file((below if "/" in path else folder, os.path.basename(path)), ("file", data, 0o644)) for path, data in IN_FOLDER.items())
+
+    def copy_below(self, number, place, copied):
+        """`cp -r` of something."""
+        thing = self.things[number]
+        if thing[0] != "folder":
+            if number not in copied:
+                copied[number] = self.put_file(place, thing)
+                return copied[number] is not None
+            if not self.may_replace(place, False):
+                return False
+            self.names[place[0]][place[1]] = copied[number]
+            return True
+        inside = sorted(self.names[number].items())
+        folder = self.folder_at(place, thing[1])
+        return folder is not None and all(self.copy_below(other, (folder, name), copied) for name, other in inside)
+
+    def copied(self, path, to, is_recursive):
+        """`cp`; whether it can be done."""
+        number, place = self.at(path), self.goal(path, to)
+        if not number or number == TOP or place is None or self.is_below(place[0], number):
+            return False
+        if not is_recursive:
+            return self.things[number][0] == "file" and self.may_replace(place, False, number) and self.put_file(place, self.things[number]) is not None
+        return self.may_replace(place, self.things[number][0] == "folder", number) and self.copy_below(number, place, {})
+
+    def is_below(self, folder, above):
+        return folder == above or any(self.is_below(folder, number) for number in self.names.get(above, {}).values() if number in self.names)
+
+    def moved(self, path, to):
+        """`mv`; whether it can be done."""
+        number, place = self.at(path), self.goal(path, to)
+        is_folder = number in self.names
+        if not number or number == TOP or place is None or self.is_below(place[0], number) or not self.may_replace(place, is_folder, number):
+            return False
+        other = self.names[place[0]].get(place[1])
+        if other and self.names.get(other):
+            return False
+        folder, name = self.place(path)
+        del self.names[folder][name]
+        self.names[place[0]][place[1]] = number
+        return True
+
+    def linked(self, path, to):
+        """`ln`; whether it can be done."""
+        number, place = self.at(path), self.goal(path, to)
+        if not number or number in self.names or place is None or place[1] in self.names[place[0]]:
+            return False
+        self.names[place[0]][place[1]] = number
+        return True
+
+    def set_thing(self, path, thing_of):
+        """Changes what a file is."""
+        if self.kind(path) != "file":
+            return False
+        _, data, mode = self.things[self.at(path)]
+        self.things[self.at(path)] = "file", *thing_of(data, mode)
+        return True
+
+    def folders_made(self, path):
+        """`mkdir -p`; whether it can be done."""
+        place, names = TOP, path.strip("/").split("/")
+        for name in names:
+            place = self.folder_at((place, name), 0o755)
+            if place is None:
+                return False
+        return True
 
     def take(self, path):
-        """Takes away what stands at a path."""
-        return self.paths.pop(path), self.numbers.pop(path, None)
-
-    def make_folders(self, path):
-        """Makes a folder and those above it; False where a file is in the way."""
-        parts = path.strip("/").split("/")
-        for depth in range(1, len(parts) + 1):
-            if self.is_file(folder := "/" + "/".join(parts[:depth])):
-                return False
-            self.paths[folder] = None
+        folder, name = self.place(path)
+        del self.names[folder][name]
         return True
 
-    def put(self, source, path, given):
-        """`put`; whether it can be done."""
-        if source == "folder":
-            path = f"{path.rstrip('/')}/{source}" if self.is_folder(path) else path
-            if not self.make_folders(path) or not self.make_folders(f"{path}/below"):
-                return False
-            if any(self.is_folder(f"{path}/{name}") for name in IN_FOLDER):
-                return False
-            for name, data in IN_FOLDER.items():
-                self.set_file(f"{path}/{name}", data)
-            return True
-        if self.may_have(path):
-            self.set_file(path, given if source == "-" else SOURCES[source])
-            return True
-        return False
-
-    def move(self, path, to):
-        """`mv` of a file, or of a folder to another name in its folder; whether it can be done."""
-        if self.is_file(path) and self.may_have(to):
-            data, number = self.take(path)
-            self.paths[to], self.numbers[to] = data, number
-            return True
-        if self.paths.get(path, b"") is None and to not in self.paths and os.path.dirname(path) == os.path.dirname(to):
-            for other in [path, *self.below(path)]:
-                data, number = self.take(other)
-                self.paths[to + other[len(path) :]] = data
-                if number is not None:
-                    self.numbers[to + other[len(path) :]] = number
-            return True
-        return False
-
-    def change(self, words, given):
+    def change(self, words, given=b""):
         """Does a line; whether it can be done."""
         match words:
+            case ["put", "folder", path]:
+                place = self.goal("folder", path)
+                return place is not None and self.put_folder(place)
+            case ["put", "-", path]:
+                return self.put_file(self.goal("-", path), ("file", given, 0o644)) is not None and self.kind(path) != "folder"
             case ["put", source, path]:
-                return self.put(source, path, given)
+                return self.put_file(self.goal(source, path), ("file", {**SOURCES, **HOLES}[source], 0o644)) is not None
             case ["mkdir", "-p", path]:
-                return self.make_folders(path)
+                return self.folders_made(path)
             case ["mkdir", path]:
-                is_done = self.may_have(path) and path not in self.paths
-                if is_done:
-                    self.paths[path] = None
-                return is_done
-            case ["rm", "-r", path] if path in self.paths:
-                for other in [path, *self.below(path)]:
-                    self.take(other)
-            case ["rm", path] if self.is_file(path):
-                self.take(path)
-            case ["rmdir", path] if path in self.paths and self.is_folder(path) and not self.below(path):
-                self.take(path)
+                place = self.place(path)
+                return place is not None and place[1] not in self.names[place[0]] and self.folder_at(place, 0o755) is not None
+            case ["rm", "-r", path] if path != "/" and self.at(path):
+                return self.take(path)
+            case ["rm", path] if self.kind(path) in ("file", "link"):
+                return self.take(path)
+            case ["rmdir", path] if path != "/" and self.kind(path) == "folder" and not self.names[self.at(path)]:
+                return self.take(path)
             case ["mv", path, to]:
-                return self.move(path, to)
-            case ["cp", path, to] if self.is_file(path) and self.may_have(to):
-                if path != to:
-                    self.set_file(to, self.paths[path])
-            case ["check", "--repair"] | ["graph"] | ["sync"]:
-                pass
-            case _:
-                return False
-        return True
+                return self.moved(path, to)
+            case ["cp", "-r", path, to]:
+                return self.copied(path, to, True)
+            case ["cp", path, to]:
+                return self.copied(path, to, False)
+            case ["ln", "-s", target, path]:
+                place = self.place(path)
+                return place is not None and place[1] not in self.names[place[0]] and self.put_file(place, ("link", target)) is not None
+            case ["ln", path, to]:
+                return self.linked(path, to)
+            case ["chmod", mode, path]:
+                return self.set_thing(path, lambda data, _: (data, int(mode, 8)))
+            case ["truncate", "-s", size, path]:
+                return self.set_thing(path, lambda data, mode: (data[: int(size)].ljust(int(size), b"\0"), mode))
+            case ["touch", "-d", _, path]:
+                return self.kind(path) in ("file", "folder")
+            case ["check", "--repair"] | ["sync"]:
+                return True
+        return False
 
     def after(self, words, given=b""):
         """The tree after a line that is done; None where it can't be."""
         after = self.copy()
         return after if after.change(words, given) else None
 
+    def path_of(self, number):
+        """A path that leads to a number."""
+        return next((path for path, other in self.walk() if other == number), None)
+
+    def numbers(self):
+        """What names lead to."""
+        return {TOP, *(number for _, number in self.walk())}
+
     def blocks(self):
         """About how many blocks its files and folders take."""
-        return sum(len(data or b"") // 512 + 3 for data in self.paths.values())
+        return sum(3 + (len(self.things[number][1]) // 500 if self.things[number][0] == "file" else 0) for _, number in self.walk())
 
 
 @dataclass
@@ -148,48 +246,76 @@ class Run:
             return answered
         return max((number for number in range(1, answered + 1) if self.lines[number - 1] == ["sync"]), default=0)
 
-    def may_leave(self, found, answered):
-        """Whether a volume may have this tree once so many lines have answered and the next is perhaps under way."""
-        first, last = self.settled(answered), min(answered + 1, len(self.lines))
-        trees = self.trees[first : last + 1]
+    def odd(self, found, answered=None):
+        """What a volume has otherwise than it may have it once so many lines have answered and the next is perhaps under way, or once all is done."""
         if found is None:
-            return False
-        if any(found.paths == tree.paths for tree in trees):
-            return True
-        is_mixed = self.is_lazy() or any(is_by_name(words) for words in self.lines[first:last])
-        return is_mixed and is_mixture(found, trees)
-
-    def leaves(self, found):
-        """Whether a volume may have this tree once all is done."""
-        return found is not None and found.paths == self.trees[-1].paths
+            return ["it is not sound"]
+        first = len(self.lines) if answered is None else self.settled(answered)
+        last = len(self.lines) if answered is None else min(answered + 1, len(self.lines))
+        return odd(found, self.trees[first : last + 1])
 
 
 def kind_of(words, tree):
     """The name of what a line does to a tree."""
-    name = " ".join(word for word in words[:2] if word[0] not in "/")
-    if words[0] == "put":
-        name = "put of a folder" if words[1] == "folder" else "put"
-    if words[0] in ("put", "mv", "cp") and tree.is_file(words[-1]) and words[1] != words[-1]:
+    name = " ".join(word for word in words[:2] if word in ("put", "cp", "mv", "rm", "ln", "chmod", "truncate", "touch") or word[0] == "-" or words[0] == word)
+    if words[0] == "put" and words[1] == "folder":
+        name = "put of a folder"
+    if words[0] in ("put", "mv", "cp") and tree.kind(words[-1]) == "file" and words[-2] != words[-1]:
         name += " over a file"
-    if words[0] == "mv" and tree.is_folder(words[1]):
+    if words[0] == "mv" and tree.kind(words[1]) == "folder":
         name += " of a folder"
     return name
 
 
-def is_by_name(words):
-    """Whether a line is done name by name, or leaves a file under two names on its way."""
-    return words[0] == "mv" or words[:2] in (["rm", "-r"], ["mkdir", "-p"], ["put", "folder"])
+class Fit:
+    """How a tree that was found agrees with some trees, of which one followed on the other: each name leads to what it led to in one of them."""
+
+    def __init__(self, found, trees):
+        self.found, self.trees, self.seen, self.odd = found, trees, set(), []
+
+    def states(self, number):
+        return {tree.things[number] for tree in self.trees if number in tree.things}
+
+    def led_to(self, folder, name):
+        """To what a name of a folder has led."""
+        return {tree.names[folder].get(name) if folder in tree.reached else None for tree in self.trees}
+
+    def odd_in(self, here, folder, path):
+        """What is odd in a folder that was found, where it is one of the trees'."""
+        names = set(self.found.names[here]).union(*(tree.names.get(folder, {}) for tree in self.trees))
+        return [it for name in sorted(names) for it in self.odd_at(self.found.names[here].get(name), self.led_to(folder, name), f"{path}/{name}")]
+
+    def odd_at(self, here, numbers, path):
+        """What is odd about what was found under a name, or that nothing was."""
+        if here is None:
+            return [] if None in numbers else [f"{path} is not there"]
+        thing, seen = self.found.things[here], {}
+        for number in numbers - {None}:
+            if thing in self.states(number):
+                seen[number] = self.odd_in(here, number, path) if thing[0] == "folder" else []
+        fitting = {number for number, odd in seen.items() if not odd}
+        self.seen |= fitting
+        if fitting:
+            return []
+        states = [shown(it) for number in numbers for it in self.states(number)]
+        return sum(sorted(seen.values(), key=len), []) or [f"{path} is {shown(thing)}, and not {states}"]
+
+    def play(self):
+        """Finds what is odd: what doesn't agree, and what is in each of the trees and wasn't found."""
+        for tree in self.trees:
+            tree.reached = tree.numbers()
+        self.odd = self.odd_in(TOP, TOP, "")
+        for number in set.intersection(*(tree.reached for tree in self.trees)) - {TOP} - self.seen:
+            self.odd.append(f"{self.trees[0].path_of(number)} is lost")
 
 
-def is_mixture(found, trees):
-    """Whether each path has what one of these trees has there, and each file that is in all of them is somewhere where one of them has it."""
-    paths = set(found.paths).union(*(tree.paths for tree in trees))
-    absent = object()
-    for path in paths:
-        if found.paths.get(path, absent) not in [tree.paths.get(path, absent) for tree in trees]:
-            return False
-    for number in set.intersection(*(set(tree.numbers.values()) for tree in trees)):
-        places = {(path, tree.paths[path]) for tree in trees for path, other in tree.numbers.items() if other == number}
-        if all(found.paths.get(path) != data for path, data in places):
-            return False
-    return True
+def shown(thing):
+    """What something is, with no more than the first of its bytes."""
+    return thing and tuple(f"{len(it)} bytes {it[:8].hex()}" if isinstance(it, bytes) else it for it in thing)
+
+
+def odd(found, trees):
+    """What a tree that was found has otherwise than a stop between these may leave it; or than the one tree has it."""
+    fit = Fit(found, trees)
+    fit.play()
+    return fit.odd

@@ -127,17 +127,18 @@ def a_lock_of_anybody_is_kept():
 
 
 @scene
-def a_put_that_waits_for_its_source_holds_no_lock():
+def a_put_that_waits_for_its_source_has_the_disk_alone():
     fresh(a=b"bytes")
     os.mkfifo("pipe")
     for words in (["put", "pipe", "/x"], ["put", "-", "/y"]):
         waiting = subprocess.Popen([XNFS, "d.img", *words], stdin=subprocess.PIPE, stdout=subprocess.PIPE, stderr=subprocess.PIPE)
         time.sleep(0.3)
-        done = run(XNFS, "d.img", "put", "d.img" if words[1] == "x" else "source", "/z")
+        done = run(XNFS, "d.img", "put", "source", "/z")
+        want(done.returncode == 1 and b"in use" in done.stderr, f"beside {' '.join(words)}, which waits, a disk is changed")
         if words[1] == "pipe":
             write("pipe", b"late")
         waiting.communicate(b"late" if words[1] == "-" else None, timeout=60)
-        want(done.returncode == 0 and waiting.returncode == 0, f"{' '.join(words)} holds the disk while it waits: {done.stderr[:80]!r}")
+        want(waiting.returncode == 0 and run(XNFS, "d.img", "cat", words[2]).stdout == b"late", f"{' '.join(words)} of bytes that come late")
 
 
 @scene

@@ -1,5 +1,6 @@
 """What scenes have in common: what they are, how programs are run in a scene's folder, and files that many begin with."""
 
+import json
 import os
 import pwd
 import shutil
@@ -56,6 +57,11 @@ def fresh(name="d.img", blocks=256, **files):
     for path, data in files.items():
         write("source", data)
         run(XNFS, name, "put", "source", "/" + path, status=0)
+
+
+def checked(name, status=0):
+    """What `check` tells of a disk."""
+    return json.loads(run(XNFS, name, "check", "--json", status=status).stdout)
 
 
 def image(name="d.img", blocks=32):

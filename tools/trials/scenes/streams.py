@@ -125,8 +125,8 @@ def faults_say_what_is_meant():
     fresh()
     run(XNFS, "format", "o.img", 64, "--fs", 3, status=0)
     for words, text in (
-        (["d.img", "touch", "/a"], b"no command 'touch'"), (["d.img", "format", "100"], b"no command 'format'"), (["o.img", "ls"], b"file system 3 has one"),
-        (["", "ls"], b"IMAGE is empty"), (["d.img", "put", "", "/x"], b"SOURCE is empty"), ([b"d.img", b"ls", b"/\xff"], b"word 3"),
+        (["d.img", "graph"], b"no command 'graph'"), (["d.img", "format", "100"], b"no command 'format'"), (["o.img", "ls"], b"there is that of 3"),
+        (["", "ls"], b"IMAGE is empty"), (["d.img", "put", "", "/x"], b"the path is empty"), ([b"d.img", b"ls", b"/\xff"], b"word 3"),
     ):
         done = subprocess.run([XNFS, *words], capture_output=True, timeout=60, check=False)
         want(done.returncode in (1, 2) and text in done.stderr, f"{words}: {done.stderr[:120]!r}")

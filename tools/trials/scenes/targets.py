@@ -44,12 +44,111 @@ def failed_get_removes_nothing():
 
 
 @scene
-def get_keeps_the_mode_of_a_file_that_is_there():
-    fresh(a=b"new bytes")
+def get_gives_a_file_the_mode_and_the_time_that_it_has_in_the_volume():
+    write("source", b"new bytes")
+    os.chmod("source", 0o640)
+    os.utime("source", ns=(0, 1_234_567_890_123_456_789))
+    fresh()
+    run(XNFS, "d.img", "put", "source", "/a", status=0)
     write("t", b"old")
     os.chmod("t", 0o600)
     run(XNFS, "d.img", "get", "/a", "t", status=0)
-    want(os.stat("t").st_mode & 0o777 == 0o600, f"mode 600 became {os.stat('t').st_mode & 0o777:o}")
+    seen = os.stat("t")
+    want((seen.st_mode & 0o7777, seen.st_mtime_ns) == (0o640, 1_234_567_890_123_456_789), f"mode {seen.st_mode:o}, time {seen.st_mtime_ns}")
+
+
+@scene
+def what_get_makes_is_secret_until_it_has_its_mode():
+    fresh(a=b"secret")
+    run(XNFS, "d.img", "chmod", "600", "/a", status=0)
+    told = run("strace", "-f", "-e", "trace=openat,fchmod,write", XNFS, "d.img", "get", "/a", "t", status=0).stderr.decode().splitlines()
+    first = next(place for place, it in enumerate(told) if "O_EXCL" in it)
+    before = [it for it in told[first:] if "0600" in it or "write(" in it][0]
+    want("0600" in before, f"others may read the bytes of a file of mode 600 while it is brought out: {told[first]}, then {before}")
+
+
+@scene
+def files_with_several_names_are_brought_out_as_they_are():
+    """A name that takes the place of one that the same line has brought out leads to its own bytes."""
+    fresh()
+    for folder in ("one", "two", "three"):
+        run(XNFS, "d.img", "mkdir", f"/{folder}", status=0)
+        write("source", folder.encode())
+        run(XNFS, "d.img", "put", "source", f"/{folder}/f", status=0)
+    run(XNFS, "d.img", "ln", "/one/f", "/three/g", status=0)
+    os.mkdir("out")
+    run(XNFS, "d.img", "get", "/one/f", "/two/f", "/three/g", "out", status=0)
+    want((read("out/f"), read("out/g")) == (b"two", b"one"), f"get of /one/f, /two/f and /three/g, the other name of /one/f: {read('out/f')}, {read('out/g')}")
+
+
+@scene
+def two_files_of_one_name_are_both_kept():
+    """Of two files that a line moves to the same name none is lost."""
+    fresh()
+    for folder in ("one", "two", "into"):
+        run(XNFS, "d.img", "mkdir", f"/{folder}", status=0)
+        write("source", folder.encode())
+        if folder != "into":
+            run(XNFS, "d.img", "put", "source", f"/{folder}/f", status=0)
+    done = run(XNFS, "d.img", "mv", "/one/f", "/two/f", "/into")
+    left = {run(XNFS, "d.img", "cat", path).stdout for path in ("/one/f", "/two/f", "/into/f")} - {b""}
+    want(left == {b"one", b"two"}, f"mv of two files of one name into a folder: status {done.returncode}, and what is left is {left}")
+
+
+@scene
+def folders_put_over_each_other_keep_the_last_files():
+    """As of three states of a folder, of which the first and the last have a file in common."""
+    for folder in ("one", "two", "three"):
+        os.mkdir(folder)
+        write(f"{folder}/f", folder.encode())
+    os.remove("three/f")
+    os.link("one/f", "three/f")
+    fresh()
+    run(XNFS, "d.img", "mkdir", "/all", status=0)
+    done = run(XNFS, "d.img", "put", "one/.", "two/.", "three/.", "/all")
+    got = run(XNFS, "d.img", "cat", "/all/f").stdout
+    want(got == b"one" and done.returncode == 0, f"put of three folders over each other: status {done.returncode}, {done.stderr!r}, the file is that of {got!r}")
+
+
+def two_that_are_one():
+    """Folders of which one/f and four/g are one file, two/f takes its place, and for three/other it has to be given up first."""
+    for folder in ("one", "two", "three", "four"):
+        os.mkdir(folder)
+    write("one/f", os.urandom(60_000))
+    os.link("one/f", "four/g")
+    write("two/f", b"two")
+    write("three/other", os.urandom(70_000))
+
+
+@scene
+def files_with_several_names_are_put_as_they_are():
+    for blocks in (200, 1024):
+        two_that_are_one()
+        fresh(f"{blocks}.img", blocks)
+        run(XNFS, f"{blocks}.img", "mkdir", "/d", status=0)
+        done = run(XNFS, f"{blocks}.img", "put", "one/f", "two/f", "three/other", "four/g", "/d")
+        got = run(XNFS, f"{blocks}.img", "cat", "/d/g").stdout
+        is_refused = blocks == 200 and done.returncode == 1 and b"no space" in done.stderr
+        told = f"status {done.returncode} {done.stderr[:80]!r}, g is other: {got == read('three/other')}"
+        want(is_refused or got == read("four/g"), f"put on {blocks} blocks: {told}")
+        for folder in ("one", "two", "three", "four"):
+            shutil.rmtree(folder)
+
+
+@scene
+def files_with_several_names_are_copied_as_they_are():
+    for blocks in (330, 1024):
+        two_that_are_one()
+        fresh(f"{blocks}.img", blocks)
+        run(XNFS, f"{blocks}.img", "put", "one", "two", "three", "four", "/", status=0)
+        run(XNFS, f"{blocks}.img", "mkdir", "/d", status=0)
+        done = run(XNFS, f"{blocks}.img", "cp", "-r", "/one/f", "/two/f", "/three/other", "/four/g", "/d")
+        got = run(XNFS, f"{blocks}.img", "cat", "/d/g").stdout
+        is_refused = blocks == 330 and done.returncode == 1 and b"no space" in done.stderr
+        told = f"status {done.returncode} {done.stderr[:80]!r}, g is other: {got == read('three/other')}"
+        want(is_refused or got == read("four/g"), f"cp -r on {blocks} blocks: {told}")
+        for folder in ("one", "two", "three", "four"):
+            shutil.rmtree(folder)
 
 
 @scene
@@ -136,8 +235,23 @@ def put_of_a_folder_follows_no_link():
     write("p/file", b"file")
     write("p/in/inner", b"inner")
     done = run(XNFS, "d.img", "put", "p", "/p", status=1)
-    want(run(XNFS, "d.img", "tree", "/p").stdout == b"file\nin/\n  inner\n", f"put of a folder with links: {run(XNFS, 'd.img', 'tree').stdout!r}")
-    want(all(name in done.stderr for name in (b"p/in/up", b"p/dangling", b"p/passwd", b"p/pipe")), f"what is left out is told: {done.stderr!r}")
+    listed = run(XNFS, "d.img", "find", "/p").stdout.split()
+    want(listed == b"/p /p/dangling /p/file /p/in /p/in/inner /p/in/up /p/passwd".split(), f"put of a folder with links: {listed}")
+    want(run(XNFS, "d.img", "readlink", "/p/passwd").stdout == b"/etc/passwd\n", "a link is put as a link")
+    want(done.stderr.count(b"\n") == 1 and b"p/pipe" in done.stderr, f"what is left out is told: {done.stderr!r}")
+
+
+@scene
+def the_disk_is_not_put_into_itself():
+    os.mkdir("p")
+    fresh("p/d.img", a=b"bytes")
+    os.link("p/d.img", "p/same")
+    write("p/other", b"other")
+    done = run(XNFS, "p/d.img", "put", "p", "/p", status=1)
+    told = done.stderr.count(b"the disk itself")
+    want(told == 2 and run(XNFS, "p/d.img", "ls", "/p").stdout == b"other\n", f"put of the folder in which the disk stands: {done.stderr!r}")
+    for name in ("p/d.img", "p/same"):
+        want(b"the disk itself" in run(XNFS, "p/d.img", "put", name, "/d", status=1).stderr, f"put of {name}, which is the disk")
 
 
 @scene
