@@ -86,6 +86,17 @@ fn part_findings<S: Store>(
     Ok(Findings { damage, left })
 }
 
+/// How many faults a volume of trees has that no crash leaves.
+pub fn count_damage<S: FlushStore>(alloc: Global, store: &S, tree: Tree) -> Result<u64, Fault> {
+    let mut count = 0u64;
+    for finding in treefs_check::check(alloc, store, tree)?.iter() {
+        if finding.is_damage() {
+            count = count.saturating_add(1);
+        }
+    }
+    Ok(count)
+}
+
 /// `check --repair` before the volume is opened to be changed: what a crash left, which that mends.
 pub fn tell_left<S: FlushStore>(
     alloc: Global,

@@ -19,7 +19,7 @@ mod searching;
 mod stating;
 mod telling;
 
-pub use checking::{check, tell_left};
+pub use checking::{check, count_damage, tell_left};
 pub use contents::{cat, read_link};
 pub use globs::Glob;
 pub use listing::{Listing, list};

@@ -21,7 +21,7 @@ use std::thread::Threads;
 use std::time::Clock;
 use tree_disks::{VolumeKind, find_volume, format, open, open_for_tests};
 use tree_lines::{Fault, Opened, TOP, Told, reason_of};
-use tree_looks::tell_left;
+use tree_looks::{check, count_damage, tell_left};
 use treefs::BlockTypes;
 use treefs_session::Session;
 use xnfs_session::Stop;
@@ -85,7 +85,8 @@ fn look_at_trees<H: Host, S: FlushStore + Drop>(
     Ok(status)
 }
 
-/// Does what a word that looks asks for on a volume of the first file system, behind a line that tells what it is. The fault is `FirstVolume` for any other word.
+/// Does what a word that looks asks for on a volume of the first file system, behind a line that tells what it is. The fault is `FirstVolume` for any other
+/// word.
 fn look_at_first<H: Host, S: FlushStore + Drop>(
     host: &H,
     alloc: Global,
@@ -142,22 +143,32 @@ fn run_opened<H: Host, S: FlushStore + Drop>(
     Ok(status)
 }
 
-/// Prints what `check --repair` is to mend of a volume of trees: nothing where that was closed, and stays as it is. Answers the store.
-fn tell_repaired<S: FlushStore + Drop>(
+/// Looks at a volume of trees before it is opened to be changed, and answers the store. The fault is `Faults` where it is damaged: then it stays as it is.
+/// Prints what `check --repair` is to mend: nothing where the volume was closed.
+fn look_before<S: FlushStore + Drop>(
     alloc: Global,
     (store, types): (S, BlockTypes),
     asked: &Asked,
     out: &mut impl Write,
 ) -> Result<S, LineFault> {
     let session = open_to_look(alloc, (store, types), asked)?;
-    if !session.volume().is_closed(session.store()) {
-        tell_left(alloc, session.store(), session.volume().tree, out)?;
+    let (store, tree) = (session.store(), session.volume().tree);
+    let damage = count_damage(alloc, store, tree)?;
+    if let Word::Check { is_json, .. } = &asked.word {
+        if damage > 0 {
+            check(alloc, store, tree, *is_json, out)?;
+        } else if !*is_json && !session.volume().is_closed(store) {
+            tell_left(alloc, store, tree, out)?;
+        }
+    }
+    if damage > 0 {
+        return Err(Fault::Faults(damage).into());
     }
     Ok(session.into_store())
 }
 
-/// Does what a word asks for on a volume of trees, mended where a crash left it, and closes that: all is on the disk then. After a failure of the disk nothing
-/// more is written, so that its fault is the one that is told.
+/// Does what a word asks for on a volume of trees that is not damaged, mended where a crash left it, and closes that: all is on the disk then. After a failure
+/// of the disk nothing more is written, so that its fault is the one that is told.
 fn change_trees<H: Host, S: FlushStore + Drop>(
     (host, clock): (&H, &impl Clock),
     alloc: Global,
@@ -167,10 +178,7 @@ fn change_trees<H: Host, S: FlushStore + Drop>(
     out: &mut impl Write,
     err: &mut impl Write,
 ) -> Result<u8, LineFault> {
-    let store = match &asked.word {
-        Word::Check { is_json: false, .. } => tell_repaired(alloc, (store, types), asked, out)?,
-        _ => store,
-    };
+    let store = look_before(alloc, (store, types), asked, out)?;
     let place = (asked.fs, types, asked.time);
     let mut opened = Opened::open(alloc, store, place, Some(system))?;
     let done = run_opened((host, clock), &mut opened, alloc, asked, input, out, err);
@@ -349,8 +357,8 @@ fn run_words<R: Files<File = File> + AllocGlobal + Clock + Clone + Drop>(
 }
 
 /// Does what the words behind the program's name ask for, and answers the program's status: 0 where it was done, and then it is on the disk; 1 where it could
-/// not be, or not whole, which is told in a line for each path; 2 where the words can't be read. That of a shell is the greatest of its lines. The time, and the
-/// random key of a new volume, come from the clock.
+/// not be, or not whole, which is told in a line for each path; 2 where the words can't be read. That of a shell is the greatest of its lines. The time, and
+/// the random key of a new volume, come from the clock.
 pub fn line<R: Files<File = File> + AllocGlobal + Clock + Clone + Drop>(
     rt: &R,
     (clock, terminal): (&(impl Clock + RandomSource), Terminal),

@@ -30,8 +30,8 @@ pub fn look_at<H: Host, S: FlushStore + Drop>(
     look(host, session, alloc, told, (word, looked), out)
 }
 
-/// Does what a word asks for on an open volume. What it changed is pending then. What a crash left was mended when the volume was opened, so that `check` has no
-/// more to mend.
+/// Does what a word asks for on an open volume. What it changed is pending then. What a crash left was mended when the volume was opened, so that `check` has
+/// no more to mend.
 pub fn run_word<H: Host, S: FlushStore + Drop>(
     host: &H,
     opened: &mut Opened<S>,
