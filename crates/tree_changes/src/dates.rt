@@ -65,8 +65,8 @@ fn nanoseconds_to(day: (i16, i8, i8), time: (i8, i8, i8), fraction: i32) -> Opti
     i64::try_from(moment.as_nanosecond()).ok()
 }
 
-/// A moment in nanoseconds since 1970: told in seconds, or in UTC as `YYYY-MM-DD`, behind which a blank or a `T` and `HH:MM`, `HH:MM:SS` or `HH:MM:SS.fffffffff`
-/// may stand, and a `Z` last. `None` where the text is none of these, or the moment is before 1678 or past 2261.
+/// A moment in nanoseconds since 1970: told in seconds, or in UTC as `YYYY-MM-DD`, behind which a blank or a `T` and `HH:MM`, `HH:MM:SS` or
+/// `HH:MM:SS.fffffffff` may stand, and a `Z` last. `None` where the text is none of these, or the moment is before 1678 or past 2261.
 pub fn read_date(text: &str) -> Option<i64> {
     if let Ok(seconds) = text.parse::<i64>() {
         return seconds.checked_mul(SECOND);
