@@ -127,18 +127,21 @@ def a_lock_of_anybody_is_kept():
 
 
 @scene
-def a_put_that_waits_for_its_source_has_the_disk_alone():
+def a_put_waits_for_standard_input_without_the_disk():
     fresh(a=b"bytes")
     os.mkfifo("pipe")
-    for words in (["put", "pipe", "/x"], ["put", "-", "/y"]):
+    for words, is_alone in ((["put", "pipe", "/x"], True), (["put", "-", "/y"], False)):
         waiting = subprocess.Popen([XNFS, "d.img", *words], stdin=subprocess.PIPE, stdout=subprocess.PIPE, stderr=subprocess.PIPE)
         time.sleep(0.3)
         done = run(XNFS, "d.img", "put", "source", "/z")
-        want(done.returncode == 1 and b"in use" in done.stderr, f"beside {' '.join(words)}, which waits, a disk is changed")
-        if words[1] == "pipe":
+        refused = done.returncode == 1 and b"in use" in done.stderr
+        want(refused if is_alone else done.returncode == 0, f"beside {' '.join(words)}, which waits, a put answers {done.returncode}")
+        if is_alone:
             write("pipe", b"late")
-        waiting.communicate(b"late" if words[1] == "-" else None, timeout=60)
+        waiting.communicate(None if is_alone else b"late", timeout=60)
         want(waiting.returncode == 0 and run(XNFS, "d.img", "cat", words[2]).stdout == b"late", f"{' '.join(words)} of bytes that come late")
+    both = subprocess.run(["sh", "-c", '"$1" d.img cat /y | tr a-z A-Z | "$1" d.img put - /y', "sh", XNFS], capture_output=True, timeout=60)
+    want(both.returncode == 0 and run(XNFS, "d.img", "cat", "/y").stdout == b"LATE", f"a pipe from a disk to itself: {both.stderr}")
 
 
 @scene
