@@ -84,22 +84,30 @@ class Folder:
                 raise Refused
 
     def copy_file(self, source, path, keeps):
-        """Copies a file or a symbolic link in the place of what has the name; the times too where that is told."""
+        """Copies a file or a symbolic link in the place of what has the name; the times too where that is told, else with mode and owner of a file there."""
         self.want_place(source, path)
         if os.path.islink(source):
             replaced(path, lambda made: os.symlink(os.readlink(source), made))
             os.lchown(path, os.lstat(source).st_uid, os.lstat(source).st_gid)
             return
 
+        found = os.stat(source)
+        if not keeps and os.path.isfile(path) and not os.path.islink(path):
+            found = os.stat(path)
+
         def make(made):
             shutil.copyfile(source, made)
-            found = os.stat(source)
             os.chown(made, found.st_uid, found.st_gid)
             os.chmod(made, found.st_mode & 0o7777)
             if keeps:
                 os.utime(made, ns=(found.st_mtime_ns, found.st_mtime_ns))
 
         replaced(path, make)
+
+    def has_both_names(self, source, path):
+        """Whether a file has the name that it is to get already, beside the one that it is to lose."""
+        one, other = (os.path.join(os.path.realpath(os.path.dirname(it)), os.path.basename(it)) for it in (source, path))
+        return one != other and os.path.lexists(path) and os.path.samestat(os.lstat(source), os.lstat(path)) and not stat.S_ISDIR(os.lstat(source).st_mode)
 
     def copy_tree(self, source, path, copied, sets_folders):
         """Copies a folder with all below it into one that may be there. A file with several names among them is copied once."""
@@ -158,6 +166,9 @@ class Folder:
         if not os.path.lexists(source):
             raise Refused
         path = self.target(one, to)
+        if self.has_both_names(source, path):
+            os.unlink(source)
+            return
         self.want_place(source, path)
         os.rename(source, path)
 

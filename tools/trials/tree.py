@@ -111,7 +111,10 @@ class Tree:
         if not number or number == TOP or place is None or self.is_below(place[0], number):
             return False
         if not is_recursive:
-            return self.things[number][0] == "file" and self.may_replace(place, False, number) and self.put_file(place, self.things[number]) is not None
+            thing, there = self.things[number], self.things.get(self.names[place[0]].get(place[1]))
+            if there and there[0] == "file" and thing[0] == "file":
+                thing = (*thing[:2], there[2])
+            return thing[0] == "file" and self.may_replace(place, False, number) and self.put_file(place, thing) is not None
         return self.may_replace(place, self.things[number][0] == "folder", number) and self.copy_below(number, place, {})
 
     def is_below(self, folder, above):
@@ -121,6 +124,10 @@ class Tree:
         """`mv`; whether it can be done."""
         number, place = self.at(path), self.goal(path, to)
         is_folder = number in self.names
+        if number and not is_folder and place not in (None, self.place(path)) and self.names[place[0]].get(place[1]) == number:
+            folder, name = self.place(path)
+            del self.names[folder][name]
+            return True
         if not number or number == TOP or place is None or self.is_below(place[0], number) or not self.may_replace(place, is_folder, number):
             return False
         other = self.names[place[0]].get(place[1])
