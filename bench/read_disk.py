@@ -3,7 +3,7 @@
 
 read_disk.py IMAGE [FILESYSTEM]          prints the tree of a volume as `xnfs IMAGE tree` does
 read_disk.py --check IMAGE               prints what `xnsim check IMAGE` prints
-read_disk.py --compare XNFS [COUNT]      compares the trees and files of pseudo-random disks with the program XNFS
+read_disk.py --compare XNFS IMAGE..      compares the trees and files of disks of the first library file system with the program XNFS
 read_disk.py --compare-check XNSIM [COUNT]   compares what is told of pseudo-random images with the program XNSIM
 """
 import os
@@ -176,61 +176,22 @@ def tell_check(image):
     return f"reached {reached} free {len(image) // BLOCK - reached}"
 
 
-NAMES = ["a", "b", "Ab", "ab", "a b", "a.txt", ".hidden", "a!", "A", "...", "~", "\u00e4", "\u00df", "\U0001f600", "#", "-", "x" * 28, "x" * 27, ".xnfs-puu",
-         "0", "9", "10"]
 SEED = 97
-LENGTHS = [0, 1, 13, 511, 512, 513, 1024, 3000, 6143, 6144, 6145, 6656, 6657, 20000, 40000, 65536, 71679, 71680]
 
 
-def make_files(folder, source):
-    """Files of many lengths to bring in; some have runs of zeros."""
-    files = []
-    for number, length in enumerate(LENGTHS + [source.randrange(71681) for number in range(6)]):
-        data = bytes(source.randrange(256) if number % 3 else source.choice([0, 0, 0, 97]) for number in range(min(length, 997))) * (length // 997 + 1)
-        files.append(os.path.join(folder, f"file{number}"))
-        with open(files[-1], "wb") as file:
-            file.write(b"\0" * (length // 2) + data[:length - length // 2] if number % 4 == 3 else data[:length])
-    return files
-
-
-def make_lines(source, files):
-    """Lines for a shell of xnfs, of which many can be done and some can't."""
-    folders, names, lines = [""], [], []
-    wide = source.random() < 0.3
-    for number in range(source.choice([100, 250] if wide else [3, 10, 30, 60, 120])):
-        name = source.choice(NAMES) if not wide or source.random() < 0.3 else f"name {source.randrange(90)}"
-        path, old = source.choice(folders[:2] if wide else folders) + "/" + name, source.choice(names or ["/none"])
-        word = source.choice(["mkdir", "mkdir", "put", "put", "put", "put", "rm", "rmdir", "mv", "mv", "cp"])
-        if word == "mkdir":
-            folders.append(path)
-        if word in ("mkdir", "put", "mv", "cp"):
-            names.append(path)
-        words = {"mkdir": [path], "put": [source.choice(files[:3] if wide else files), path], "rm": [old], "rmdir": [source.choice(folders) or "/"],
-                 "mv": [old, path], "cp": [old, path]}[word]
-        lines.append(" ".join([word, *(f'"{part}"' for part in words)]))
-    return "".join(line + "\n" for line in lines)
-
-
-def start(program, *words, text=""):
+def start(program, *words):
     """What a program prints on standard output, and its status."""
-    done = subprocess.run([program, *words], input=text.encode(), stdout=subprocess.PIPE, stderr=subprocess.DEVNULL)
+    done = subprocess.run([program, *words], stdin=subprocess.DEVNULL, stdout=subprocess.PIPE, stderr=subprocess.DEVNULL)
     return done.stdout, done.returncode
 
 
-def compare(program, count):
-    """Compares the trees and the files of pseudo-random disks with what the program tells, and prints how many differ."""
-    source, names, differences = random.Random(SEED), 0, 0
-    with tempfile.TemporaryDirectory() as folder:
-        files, path = make_files(folder, source), os.path.join(folder, "disk")
-        for number in range(count):
-            filesystem, blocks = source.randrange(32), source.choice([32, 48, 100, 300, 1000, 2000, source.randrange(32, 2001)])
-            start(program, "format", path, str(blocks), "--fs", str(filesystem))
-            stop = ["--stop", str(source.randrange(60))] if source.random() < 0.2 else []
-            start(program, path, "--fs", str(filesystem), "--no-sync", *stop, "shell", *source.choice([[], ["--lazy"]]), text=make_lines(source, files))
-            found, wrong = compare_disk(program, path, read_image(path), filesystem)
-            names, differences = names + found, differences + wrong
-            os.remove(path)
-    print(f"{count} images, {names} names, {differences} differences")
+def compare(program, paths):
+    """Compares the trees and the files of disks with what the program tells, and prints how many differ."""
+    names, differences = 0, 0
+    for path in paths:
+        found, wrong = compare_disk(program, path, read_image(path), 0)
+        names, differences = names + found, differences + wrong
+    print(f"{len(paths)} images, {names} names, {differences} differences")
     return 1 if differences else 0
 
 
@@ -307,9 +268,10 @@ def compare_disk(program, path, image, filesystem):
 
 def main(arguments):
     """Does what the words of the line ask, and gives the status."""
-    comparisons = {"--compare": compare, "--compare-check": compare_check}
-    if arguments[:1] and arguments[0] in comparisons and len(arguments) in (2, 3):
-        return comparisons[arguments[0]](arguments[1], int(arguments[2]) if len(arguments) == 3 else 200)
+    if arguments[:1] == ["--compare"] and len(arguments) > 2:
+        return compare(arguments[1], arguments[2:])
+    if arguments[:1] == ["--compare-check"] and len(arguments) in (2, 3):
+        return compare_check(arguments[1], int(arguments[2]) if len(arguments) == 3 else 200)
     if arguments[:1] == ["--check"] and len(arguments) == 2:
         line = tell_check(read_image(arguments[1]))
         print(line)
