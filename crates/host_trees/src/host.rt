@@ -8,6 +8,9 @@ use std::alloc::Global;
 use std::io;
 use system_files::{Links, WriteFault};
 
+/// So many bytes of a file are read at once at most.
+pub const PIECE: usize = 1_048_576;
+
 /// The names in a folder of the system.
 #[derive(Debug, Drop)]
 pub struct Names {
@@ -75,7 +78,7 @@ pub trait Host {
     ) -> Result<(), WriteFault>;
 
     /// Writes the file of a name. A regular file is replaced as a whole, synced, by one that has what is told to be set, or else what the old one has; one that
-    /// is locked is refused. What is no regular file is written in place.
+    /// is locked is refused. Nobody but its owner may read it before it has what is to be set. What is no regular file is written in place.
     fn write_file<F: Filler>(
         &self,
         path: &str,

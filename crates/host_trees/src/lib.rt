@@ -1,5 +1,5 @@
 //! The files of the system as a tree: what stands at a path with its attributes, bytes that are read in pieces, files that are replaced as a whole, folders and
-//! links, behind a trait, so that a test can stand in for the system.
+//! links, behind a trait, so that a test can stand in for the system; and what is told of many that are under way.
 //!
 //! Of these functions it is proved that they are safe and end. That the system's own calls are what `real` takes them for is to be read, and not proved.
 //! May touch: memory, files, clock.
@@ -8,11 +8,15 @@
 mod attributes;
 mod host;
 mod linking;
+mod naming;
+mod progress;
 mod real;
 mod sink;
 mod writing;
 
 pub use attributes::{Attributes, Kind, Settings};
-pub use host::{Host, Names};
+pub use host::{Host, Names, PIECE};
+pub use naming::{joined, own_name};
+pub use progress::Progress;
 pub use real::RealHost;
 pub use sink::{Filler, PlainSink, Sink};

@@ -6,9 +6,15 @@ use crate::attributes::{Settings, set_all};
 use crate::sink::{Filler, PlainSink, SparseSink};
 use std::fs::{File, Files, Metadata, OpenOptions, TryLockError};
 use std::io::ErrorKind;
-use std::os::unix::fs::{MetadataExt, fchown};
+use std::os::unix::fs::{MetadataExt, OpenOptionsExt, fchown};
 use std::{fs, io};
 use system_files::{Found, Links, Source, System, WriteFault, is_same, write_by};
+
+/// The mode of a file that is being filled, and then gets its own.
+const OWN: u32 = 0o600;
+
+/// The mode of a file that is made as any other, of which the system takes away what is masked.
+const ANY: u32 = 0o666;
 
 /// The system that runs the program, with what the file that is written gets.
 struct Writing<'a, R: Files<File = File> + AllocGlobal, F: Filler> {
@@ -94,7 +100,13 @@ impl<'a, R: Files<File = File> + AllocGlobal, F: Filler> System for Writing<'a, 
     }
 
     fn make(&mut self, name: &str) -> Result<Option<File>, WriteFault> {
-        match File::create_new(self.rt, name) {
+        let mode = if self.settings.is_some() { OWN } else { ANY };
+        let made = OpenOptions::new()
+            .write(true)
+            .create_new(true)
+            .mode(mode)
+            .open(self.rt, name);
+        match made {
             Ok(file) => Ok(Some(file)),
             Err(error) if error.kind() == ErrorKind::AlreadyExists => Ok(None),
             Err(error) => Err(error.into()),
@@ -102,6 +114,9 @@ impl<'a, R: Files<File = File> + AllocGlobal, F: Filler> System for Writing<'a, 
     }
 
     fn keep(&mut self, file: &File, old: &File) -> Result<(), WriteFault> {
+        if self.settings.is_some() {
+            return Ok(());
+        }
         let metadata = old.metadata()?;
         // It takes rights that few users have. The group may be one's own where the owner may not be given away.
         if fchown(file, Some(metadata.uid()), Some(metadata.gid())).is_err() {

@@ -3,7 +3,7 @@
 ghost use Rattle.std.specs.Prelude.{◌≤◌, length};
 
 use crate::attributes::attributes_of;
-use crate::sparse::{copy_sparse, is_sparse, put_name};
+use crate::linking::put_name;
 use flush_store::FlushStore;
 use std::alloc::{AllocError, Global};
 use std::collections::BTreeMap;
@@ -84,41 +84,64 @@ fn head_of(bytes: &[u8]) -> &[u8]
     &bytes[..bytes.len().min(HEAD)]
 }
 
-/// Reads the next bytes of a file, at most a piece.
-pub fn read_piece<'p, S: FlushStore + Drop>(
+/// Reads bytes of a file from one on, as many as there is room for, and answers those that there were.
+fn read_from<'p, S: FlushStore + Drop>(
     opened: &Opened<S>,
     alloc: Global,
     copied: &Copied,
     at: u64,
-    piece: &'p mut [u8],
+    room: &'p mut [u8],
 ) -> Result<&'p [u8], Fault> {
-    match View::read(&opened.session, copied.node.number, at, piece) {
-        Ok(count) => Ok(front(piece, count)),
+    match View::read(&opened.session, copied.node.number, at, room) {
+        Ok(count) => Ok(front(room, count)),
         Err(reason) => Err(at_bytes(alloc, copied.path, reason)),
     }
 }
 
-/// Writes the bytes of a file behind the first ones of one that was begun.
-fn append_rest<S: FlushStore + Drop>(
+/// Copies the bytes of a file that stand in blocks from one on, at most a piece, to an inode that was begun, and answers the place behind them; nothing where only
+/// a hole follows, or the file ends.
+fn copy_stretch<S: FlushStore + Drop>(
+    opened: &mut Opened<S>,
+    alloc: Global,
+    copied: &Copied,
+    (block, at): (u32, u64),
+    piece: &mut [u8],
+) -> Result<Option<u64>, Fault> {
+    let (source, most) = (copied.node.number, piece.len() as u64);
+    let stretch = match View::stretch(&opened.session, source, at, most) {
+        Ok(Some(stretch)) => stretch,
+        Ok(None) => return Ok(None),
+        Err(reason) => return Err(at_bytes(alloc, copied.path, reason)),
+    };
+    let length = usize::try_from(stretch.length).unwrap_or(piece.len());
+    let Some(room) = piece.get_mut(..length) else {
+        return Ok(None);
+    };
+    let bytes = read_from(opened, alloc, copied, stretch.at, room)?;
+    let target = Target::Begun(block, stretch.at);
+    opened.write_all(alloc, copied.to, target, bytes)?;
+    Ok(Some(stretch.at.saturating_add(stretch.length)))
+}
+
+/// Copies all bytes of a file that stand in blocks, behind the first ones, to one that was begun: what lies between stays a hole. One at its end has a last byte.
+fn copy_rest<S: FlushStore + Drop>(
     opened: &mut Opened<S>,
     alloc: Global,
     copied: &Copied,
     block: u32,
     piece: &mut [u8],
 ) -> Result<(), Fault> {
-    let mut done = HEAD as u64;
-    for _piece in 0..copied.node.size {
-        if done >= copied.node.size {
-            break;
+    let (mut at, size) = (HEAD as u64, copied.node.size);
+    for _stretch in 0..size {
+        match copy_stretch(opened, alloc, copied, (block, at), piece)? {
+            Some(behind) if behind > at => at = behind,
+            _ => break,
         }
-        let bytes = read_piece(opened, alloc, copied, done, piece)?;
-        if bytes.is_empty() {
-            break;
-        }
-        opened.write_all(alloc, copied.to, Target::Begun(block), bytes)?;
-        done = done.saturating_add(bytes.len() as u64);
     }
-    Ok(())
+    if at >= size {
+        return Ok(());
+    }
+    opened.write_all(alloc, copied.to, Target::Begun(block, size - 1), &[0])
 }
 
 /// Writes all bytes of a copy that was begun, and gives it its name.
@@ -129,7 +152,7 @@ fn finish<S: FlushStore + Drop>(
     block: u32,
     piece: &mut [u8],
 ) -> Result<u32, Fault> {
-    append_rest(opened, alloc, copied, block, piece)?;
+    copy_rest(opened, alloc, copied, block, piece)?;
     let commit = Commit {
         block,
         directory: copied.place.folder,
@@ -139,15 +162,15 @@ fn finish<S: FlushStore + Drop>(
     opened.make_name(alloc, copied.to, &commit)
 }
 
-/// Copies a file without holes: it has its name once all its bytes are written. Answers the number of the copy.
-fn copy_dense<S: FlushStore + Drop>(
+/// Copies the bytes of a file: the copy has its name once all are written. Holes stay. Answers the number of the copy.
+fn copy_content<S: FlushStore + Drop>(
     opened: &mut Opened<S>,
     alloc: Global,
     copied: &Copied,
     piece: &mut [u8],
 ) -> Result<u32, Fault> {
     let mut head = [0u8; HEAD];
-    let head = read_piece(opened, alloc, copied, 0, &mut head)?;
+    let head = read_from(opened, alloc, copied, 0, &mut head)?;
     let begin = Begin {
         kind: Kind::File,
         attributes: attributes_of(opened, &copied.node),
@@ -192,13 +215,9 @@ fn copy_new<S: FlushStore + Drop>(
     copied: &Copied,
 ) -> Result<u32, Fault> {
     if copied.node.is_link() {
-        return copy_link(opened, alloc, copied);
-    }
-    let view = &opened.session;
-    match is_sparse(view, &copied.node) {
-        Ok(true) => copy_sparse(opened, alloc, copied, &mut copying.piece),
-        Ok(false) => copy_dense(opened, alloc, copied, &mut copying.piece),
-        Err(reason) => Err(at_bytes(alloc, copied.path, reason)),
+        copy_link(opened, alloc, copied)
+    } else {
+        copy_content(opened, alloc, copied, &mut copying.piece)
     }
 }
 

@@ -10,13 +10,13 @@ mod copies;
 mod copying;
 mod dates;
 mod folders;
+mod linking;
 mod modes;
 mod moving;
 mod naming;
 mod owners;
 mod removing;
 mod setting;
-mod sparse;
 mod times;
 
 pub use copying::copy;

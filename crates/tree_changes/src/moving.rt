@@ -3,6 +3,7 @@
 use crate::removing::unlink;
 use flush_store::FlushStore;
 use std::alloc::{AllocError, Global};
+use std::collections::BTreeSet;
 use tree_lines::{
     Fault, Goal, Node, Opened, Place, Reason, at, at_bytes, below, find_to, own_name, place_of,
     there,
@@ -81,12 +82,14 @@ fn has_both_names<S: FlushStore + Drop>(
     }
 }
 
-/// Moves what stands at a path. Where it is to get a name that it has, too, it loses the other one.
+/// Moves what stands at a path. Where it is to get a name that it has, too, it loses the other one. A name that the line has given to something is not given
+/// again: that would be lost.
 fn move_one<S: FlushStore + Drop>(
     opened: &mut Opened<S>,
     alloc: Global,
     path: &str,
     (to, goal): (&str, Goal),
+    given: &mut BTreeSet<Vec<u8>>,
 ) -> Result<(), Fault> {
     let from = place_of(&opened.session, alloc, opened.folder, path)?;
     let name = own_name(alloc, path)?;
@@ -97,6 +100,9 @@ fn move_one<S: FlushStore + Drop>(
     }
     let goal_path = goal_path(alloc, to, goal, name)?;
     let is_taken = is_taken(opened, alloc, &goal_path, place, &node)?;
+    if is_taken && given.contains(place.name) {
+        return Err(at(alloc, path, Reason::Moved));
+    }
     let told_path = if is_taken {
         goal_path.as_slice()
     } else {
@@ -108,11 +114,13 @@ fn move_one<S: FlushStore + Drop>(
         new_directory: place.folder,
         new_name: place.name,
     };
-    opened.make_name(alloc, told_path, &rename)
+    opened.make_name(alloc, told_path, &rename)?;
+    let _is_new = given.insert(Vec::from_slice(alloc, place.name)?)?;
+    Ok(())
 }
 
 /// `mv`: moves files, folders and symbolic links into a folder that is there, under their own names, or gives one another name. A file takes the place of one
-/// that has the name, and a folder that of an empty one.
+/// that has the name, and a folder that of an empty one, but not of what the same line has moved there.
 pub fn rename<S: FlushStore + Drop>(
     opened: &mut Opened<S>,
     alloc: Global,
@@ -120,9 +128,10 @@ pub fn rename<S: FlushStore + Drop>(
     to: &str,
 ) -> Result<(), Fault> {
     let are_several = paths.len() > 1;
+    let mut given = BTreeSet::new(alloc);
     for path in paths {
         let goal = find_to(&opened.session, alloc, opened.folder, to, are_several)?;
-        let done = move_one(opened, alloc, path, (to, goal));
+        let done = move_one(opened, alloc, path, (to, goal), &mut given);
         opened.told.go_on(done)?;
     }
     Ok(())

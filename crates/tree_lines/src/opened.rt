@@ -1,5 +1,8 @@
 // An open volume of trees, and what its lines know of it.
 
+ghost use Rattle.std.specs.Prelude.{IfOk, OnOk};
+ghost use Rattle.flush_store.specs.Written.{AllWritten};
+
 use crate::fault::{Fault, at_bytes};
 use crate::paths::TOP;
 use crate::reason::{naming_reason_of, reason_of};
@@ -11,6 +14,7 @@ use std::alloc::Global;
 use store_types::Refusal;
 use treefs::BlockTypes;
 use treefs_model::Fault as TreeFault;
+use treefs_session::law::closes_and_syncs_write;
 use treefs_session::{Call, Put, Session, Target};
 
 /// An open volume of trees, and what its lines know of it.
@@ -81,6 +85,17 @@ impl<S: FlushStore + Drop> Opened<S> {
         }
     }
 
+    /// Mends the volume, which was just opened, also where it had been closed, as `mend` of a session does it.
+    pub fn mend(&mut self, alloc: Global) -> Result<(), Fault> {
+        match self.session.mend(alloc) {
+            Ok(()) => Ok(()),
+            Err(fault) => {
+                self.is_broken = matches!(fault, TreeFault::Kernel(_));
+                Err(volume_fault(&self.system, fault))
+            }
+        }
+    }
+
     /// What tells inodes that a line makes from earlier ones of their numbers: the last bits of its time.
     pub fn generation(&self) -> u32 {
         let time = self.session.volume().memory.clock.to_le_bytes();
@@ -92,6 +107,19 @@ impl<S: FlushStore + Drop> Opened<S> {
         self.is_broken
     }
 
+    /// The fault of a call at a path.
+    fn fault_at(&mut self, alloc: Global, path: &[u8], fault: TreeFault, is_naming: bool) -> Fault {
+        let free = self.session.store().state().free();
+        match fault {
+            TreeFault::Kernel(refusal) => {
+                self.is_broken = true;
+                refused(&self.system, refusal)
+            }
+            fault if is_naming => at_bytes(alloc, path, naming_reason_of(fault, free)),
+            fault => at_bytes(alloc, path, reason_of(fault, free)),
+        }
+    }
+
     /// What a call answered, or its fault at a path.
     fn answered<A: Drop>(
         &mut self,
@@ -100,15 +128,9 @@ impl<S: FlushStore + Drop> Opened<S> {
         answer: Result<A, TreeFault>,
         is_naming: bool,
     ) -> Result<A, Fault> {
-        let free = self.session.store().state().free();
         match answer {
             Ok(answer) => Ok(answer),
-            Err(TreeFault::Kernel(refusal)) => {
-                self.is_broken = true;
-                Err(refused(&self.system, refusal))
-            }
-            Err(fault) if is_naming => { Err(at_bytes(alloc, path, naming_reason_of(fault, free))) }
-            Err(fault) => Err(at_bytes(alloc, path, reason_of(fault, free))),
+            Err(fault) => Err(self.fault_at(alloc, path, fault, is_naming)),
         }
     }
 
@@ -171,14 +193,22 @@ impl<S: FlushStore + Drop> Opened<S> {
     }
 
     /// Writes all that is pending, and frees what no name leads to, but for the folder that is held.
-    pub fn sync(&mut self, alloc: Global) -> Result<(), Fault> {
+    pub fn sync(&mut self, alloc: Global) -> Result<(), Fault>
+        ensures written { OnOk result (AllWritten (S.state_of self.new.session.store).lives) }
+    {
+        closes_and_syncs_write();
         let held = [self.folder];
-        let answer = self.session.sync(alloc, &held);
-        self.answered(alloc, b"sync", answer, false)
+        match self.session.sync(alloc, &held) {
+            Ok(()) => Ok(()),
+            Err(fault) => Err(self.fault_at(alloc, b"sync", fault, false)),
+        }
     }
 
-    /// Closes the volume: what no name leads to is freed, and all is written. Answers the store.
-    pub fn close(self, alloc: Global) -> Result<S, Fault> {
+    /// Closes the volume: what no name leads to is freed, and all is written. Answers the store, of which nothing is pending any more.
+    pub fn close(self, alloc: Global) -> Result<S, Fault>
+        ensures written { IfOk result (λ store. AllWritten (S.state_of store).lives) }
+    {
+        closes_and_syncs_write();
         let Opened {
             session,
             told: _,

@@ -54,6 +54,10 @@ pub enum Reason {
     NoOwnName,
     #[error("is the same file")]
     Same,
+    #[error("another path of the line was moved to this name")]
+    Moved,
+    #[error("{0} files or folders have no name: a repair would free them")]
+    Unnamed(u64),
     #[error("is no text")]
     NotText,
     #[error("is neither a file nor a folder nor a symbolic link")]

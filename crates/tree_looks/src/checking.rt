@@ -97,19 +97,16 @@ pub fn count_damage<S: FlushStore>(alloc: Global, store: &S, tree: Tree) -> Resu
     Ok(count)
 }
 
-/// `check --repair` before the volume is opened to be changed: what a crash left, which that mends.
-pub fn tell_left<S: FlushStore>(
+/// Prints what is mended, of what was found.
+pub fn tell_mended<S: Store>(
     alloc: Global,
-    store: &S,
-    tree: Tree,
+    (store, tree): (&S, Tree),
+    found: &[Finding],
     out: &mut impl Write,
 ) -> Result<(), Fault> {
-    let found = treefs_check::check(alloc, store, tree)?;
     let unnamed = counts_of(store, tree).unnamed;
-    for text in part_findings(alloc, (store, tree), &found, unnamed)?
-        .left
-        .iter()
-    {
+    let findings = part_findings(alloc, (store, tree), found, unnamed)?;
+    for text in findings.damage.iter().chain(findings.left.iter()) {
         writeln!(out, "mended: {text}")?;
     }
     Ok(())

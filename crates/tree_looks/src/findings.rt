@@ -71,6 +71,9 @@ pub fn told_finding<S: Store>(
         Finding::Parent(number) => {
             format!(in alloc; "folder {number} says that it stands in another folder")
         }
+        Finding::TooLong(number) => {
+            format!(in alloc; "number {number} says a size that no file has")
+        }
         Finding::PastSize(number) => {
             format!(in alloc; "number {number} has bytes or blocks past its size")
         }

@@ -2,7 +2,7 @@
 
 use crate::entries::object_of;
 use crate::json::Items;
-use crate::rows::{Row, is_hidden, print_rows, rows_of};
+use crate::rows::{Row, RowForm, is_hidden, print_rows, rows_of};
 use std::alloc::Global;
 use std::io::Write;
 use tree_lines::{Fault, Node, Reason, Told, View, Walk, below, find, last_name, shown};
@@ -16,8 +16,18 @@ pub struct Listing {
     pub has_hidden: bool,
     /// With all folders below.
     pub is_recursive: bool,
+    /// With sizes as people read them.
+    pub is_human: bool,
     /// As one value of JSON.
     pub is_json: bool,
+}
+
+/// The form of the rows of a listing.
+fn form_of(how: Listing) -> RowForm {
+    RowForm {
+        is_long: how.is_long,
+        is_human: how.is_human,
+    }
 }
 
 /// A folder that is to be listed.
@@ -82,7 +92,7 @@ fn print_folder<V: View>(
     }
     let place = (listed.path, listed.folder);
     match rows_of(view, alloc, told, place, how.has_hidden) {
-        Ok(rows) => print_rows(view, alloc, &rows, how.is_long, out),
+        Ok(rows) => print_rows(view, alloc, &rows, form_of(how), out),
         Err(fault) => told.go_on(Err(fault)),
     }
 }
@@ -153,7 +163,7 @@ fn print_all<V: View>(
 ) -> Result<(), Fault> {
     let parted = part_paths(view, alloc, told, (folder, how.is_long), paths)?;
     let (rows, folders) = parted;
-    print_rows(view, alloc, &rows, how.is_long, out)?;
+    print_rows(view, alloc, &rows, form_of(how), out)?;
     let mut is_first = rows.is_empty();
     for listed in folders.iter() {
         if !is_first {

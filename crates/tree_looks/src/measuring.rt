@@ -1,9 +1,22 @@
 // The word `du`.
 
+use crate::sizes::told_size;
 use std::alloc::{AllocError, Global};
 use std::collections::BTreeSet;
 use std::io::Write;
 use tree_lines::{Fault, Node, Told, View, Visit, Walk, at_bytes, find, shown};
+
+/// How many bytes a block has.
+const BLOCK: u64 = 512;
+
+/// How sums are told.
+#[derive(Clone, Copy, Debug)]
+pub struct Measuring {
+    /// Those of the paths alone.
+    pub is_summary: bool,
+    /// In bytes, as people read them, and not in blocks.
+    pub is_human: bool,
+}
 
 /// What is measured: each number once.
 #[derive(Drop)]
@@ -59,11 +72,16 @@ fn blocks_of<V: View>(
 fn print_blocks(
     alloc: Global,
     path: &[u8],
-    blocks: u64,
+    (blocks, is_human): (u64, bool),
     out: &mut impl Write,
 ) -> Result<(), Fault> {
-    let path = shown(alloc, path)?;
-    writeln!(out, "{blocks}\t{path}")?;
+    let held = if is_human {
+        blocks.saturating_mul(BLOCK)
+    } else {
+        blocks
+    };
+    let (path, held) = (shown(alloc, path)?, told_size(alloc, held, is_human)?);
+    writeln!(out, "{held}\t{path}")?;
     Ok(())
 }
 
@@ -93,7 +111,7 @@ fn measure_one<V: View>(
     alloc: Global,
     told: &mut Told,
     measure: &mut Sums,
-    (folder, path, is_summary): (u32, &str, bool),
+    (folder, path, how): (u32, &str, Measuring),
     out: &mut impl Write,
 ) -> Result<(), Fault> {
     let node = find(view, alloc, folder, path, false)?;
@@ -111,24 +129,24 @@ fn measure_one<V: View>(
                 }
                 Some(Visit::Left(_step)) => {
                     let blocks = measure.leave();
-                    if !is_summary {
-                        print_blocks(alloc, walk.path(), blocks, out)?;
+                    if !how.is_summary {
+                        print_blocks(alloc, walk.path(), (blocks, how.is_human), out)?;
                     }
                 }
             }
         }
     }
-    print_blocks(alloc, path, measure.leave(), out)
+    print_blocks(alloc, path, (measure.leave(), how.is_human), out)
 }
 
-/// `du`: how many blocks of 512 bytes are held at some paths and below them, each number once: of each folder, or of the paths alone. Without a path the
+/// `du`: how many blocks of 512 bytes, or how many bytes, are held at some paths and below them, each number once: of each folder, or of the paths alone. Without a path the
 /// folder itself is measured.
 pub fn measure<V: View>(
     view: &V,
     alloc: Global,
     told: &mut Told,
     (folder, paths): (u32, &[&str]),
-    is_summary: bool,
+    how: Measuring,
     out: &mut impl Write,
 ) -> Result<(), Fault> {
     let mut measure = Sums {
@@ -136,11 +154,11 @@ pub fn measure<V: View>(
         sums: Vec::new(alloc),
     };
     if paths.is_empty() {
-        let given = (folder, ".", is_summary);
+        let given = (folder, ".", how);
         return measure_one(view, alloc, told, &mut measure, given, out);
     }
     for path in paths {
-        let given = (folder, *path, is_summary);
+        let given = (folder, *path, how);
         let done = measure_one(view, alloc, told, &mut measure, given, out);
         told.go_on(done)?;
     }

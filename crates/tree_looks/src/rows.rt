@@ -1,7 +1,8 @@
 // Rows of a listing.
 
 use crate::moments::Minutes;
-use std::alloc::Global;
+use crate::sizes::told_size;
+use std::alloc::{AllocError, Global};
 use std::io::Write;
 use tree_lines::{Fault, Mode, Node, Told, View, at_bytes, below, kind_mark, shown};
 use treefs_format::Kind;
@@ -11,6 +12,15 @@ use treefs_format::Kind;
 pub struct Row {
     pub name: Vec<u8>,
     pub node: Node,
+}
+
+/// The form of rows.
+#[derive(Clone, Copy, Debug)]
+pub struct RowForm {
+    /// With mode, links, owners, size and time.
+    pub is_long: bool,
+    /// With sizes as people read them.
+    pub is_human: bool,
 }
 
 /// Whether a name is listed only where that is asked.
@@ -73,7 +83,7 @@ struct Widths {
 }
 
 /// How wide the numbers of rows are.
-fn widths_of(rows: &[Row]) -> Widths {
+fn widths_of(alloc: Global, rows: &[Row], is_human: bool) -> Result<Widths, AllocError> {
     let mut widths = Widths {
         links: 1,
         uid: 1,
@@ -86,10 +96,12 @@ fn widths_of(rows: &[Row]) -> Widths {
             links: widths.links.max(digits(u64::from(node.links))),
             uid: widths.uid.max(digits(u64::from(node.uid))),
             gid: widths.gid.max(digits(u64::from(node.gid))),
-            size: widths.size.max(digits(node.size)),
+            size: widths
+                .size
+                .max(told_size(alloc, node.size, is_human)?.len()),
         };
     }
-    widths
+    Ok(widths)
 }
 
 /// Prints a number behind as many spaces as it lacks to be so wide, and a space.
@@ -101,8 +113,17 @@ fn print_number(number: u64, width: usize, out: &mut impl Write) -> Result<(), F
     Ok(())
 }
 
+/// Prints a size behind as many spaces as it lacks to be so wide, and a space.
+fn print_size(size: &str, width: usize, out: &mut impl Write) -> Result<(), Fault> {
+    for _space in size.len()..width {
+        write!(out, " ")?;
+    }
+    write!(out, "{size} ")?;
+    Ok(())
+}
+
 /// Prints what stands at a name, before it: its mode, links, owners, size and time.
-fn print_node(node: &Node, widths: Widths, out: &mut impl Write) -> Result<(), Fault> {
+fn print_node(node: &Node, size: &str, widths: Widths, out: &mut impl Write) -> Result<(), Fault> {
     let mode = Mode {
         kind: node.kind,
         permissions: node.permissions,
@@ -111,7 +132,7 @@ fn print_node(node: &Node, widths: Widths, out: &mut impl Write) -> Result<(), F
     print_number(u64::from(node.links), widths.links, out)?;
     print_number(u64::from(node.uid), widths.uid, out)?;
     print_number(u64::from(node.gid), widths.gid, out)?;
-    print_number(node.size, widths.size, out)?;
+    print_size(size, widths.size, out)?;
     let time = Minutes(node.modified);
     write!(out, "{time} ")?;
     Ok(())
@@ -142,14 +163,15 @@ pub fn print_rows<V: View>(
     view: &V,
     alloc: Global,
     rows: &[Row],
-    is_long: bool,
+    form: RowForm,
     out: &mut impl Write,
 ) -> Result<(), Fault> {
-    let widths = widths_of(rows);
+    let widths = widths_of(alloc, rows, form.is_human)?;
     for row in rows {
         let name = shown(alloc, &row.name)?;
-        if is_long {
-            print_node(&row.node, widths, out)?;
+        if form.is_long {
+            let size = told_size(alloc, row.node.size, form.is_human)?;
+            print_node(&row.node, size.as_str(), widths, out)?;
             write!(out, "{name}")?;
             print_behind(view, alloc, &row.node, out)?;
             writeln!(out, "")?;

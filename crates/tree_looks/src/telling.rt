@@ -1,6 +1,7 @@
 // The words `tree` and `df`.
 
 use crate::json::Members;
+use crate::sizes::told_size;
 use std::alloc::Global;
 use std::io::Write;
 use tree_lines::{Fault, Reason, Told, Usage, View, Walk, at, find, kind_mark, shown};
@@ -49,17 +50,55 @@ fn print_usage(usage: &Usage, out: &mut impl Write) -> Result<(), Fault> {
     Ok(())
 }
 
-/// `df`: what is taken and left, and the limits; with `is_json` as an object of JSON.
+/// Prints what is free and the limits as people read sizes.
+fn print_human_usage(alloc: Global, usage: &Usage, out: &mut impl Write) -> Result<(), Fault> {
+    let free = told_size(
+        alloc,
+        u64::from(usage.free_blocks).saturating_mul(512),
+        true,
+    )?;
+    let size = told_size(alloc, u64::from(usage.blocks).saturating_mul(512), true)?;
+    writeln!(out, "free: {free} of {size}")?;
+    if let Some((used, most)) = usage.numbers {
+        writeln!(out, "inodes used: {used} of {most}")?;
+    }
+    let file = told_size(alloc, usage.largest_file, true)?;
+    writeln!(
+        out,
+        "limits: a name {} bytes, a file {file}",
+        usage.longest_name
+    )?;
+    Ok(())
+}
+
+/// How `df` tells what is free.
+#[derive(Clone, Copy, Debug, PartialEq, Eq)]
+pub enum UsageForm {
+    /// In blocks.
+    Blocks,
+    /// In bytes, as people read them.
+    Human,
+    /// As an object of JSON.
+    Json,
+}
+
+/// `df`: what is taken and left, and the limits.
 pub fn usage<V: View>(
     view: &V,
     alloc: Global,
-    is_json: bool,
+    form: UsageForm,
     out: &mut impl Write,
 ) -> Result<(), Fault> {
     let usage = view.usage();
-    if !is_json {
-        return print_usage(&usage, out);
+    match form {
+        UsageForm::Blocks => print_usage(&usage, out),
+        UsageForm::Human => print_human_usage(alloc, &usage, out),
+        UsageForm::Json => print_json_usage(alloc, &usage, out),
     }
+}
+
+/// Prints what is taken and left, and the limits, as an object of JSON.
+fn print_json_usage(alloc: Global, usage: &Usage, out: &mut impl Write) -> Result<(), Fault> {
     let mut object = Members::none(alloc);
     object.number("free_blocks", u64::from(usage.free_blocks))?;
     object.number("blocks", u64::from(usage.blocks))?;

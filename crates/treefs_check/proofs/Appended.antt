@@ -14,6 +14,9 @@ pub said : {A E : Type 0} {P Q : A → Type 0} (r : Result A E) → ((a : A) →
 said (Ok a) more is = more a is
 said (Err e) more is = is
 
-pub three : {s1 s2 s3 : List Finding} (s0 a b d : List Finding) → s1 ≡ s0 ++ a → s2 ≡ s1 ++ b → s3 ≡ s2 ++ d → s3 ≡ s0 ++ (a ++ (b ++ d))
-three s0 a b d one two more = more ∙ (ap (λ (l : List Finding). l ++ d) two ∙ (ap (λ (l : List Finding). (l ++ b) ++ d) one
-    ∙ (append_assoc (s0 ++ a) b d ∙ append_assoc s0 a (b ++ d))))
+pub two : {s1 s2 : List Finding} (s0 a b : List Finding) → s1 ≡ s0 ++ a → s2 ≡ s1 ++ b → s2 ≡ s0 ++ (a ++ b)
+two s0 a b one more = more ∙ (ap (λ (l : List Finding). l ++ b) one ∙ append_assoc s0 a b)
+
+pub four : {s1 s2 s3 s4 : List Finding} (s0 a b c d : List Finding) → s1 ≡ s0 ++ a → s2 ≡ s1 ++ b → s3 ≡ s2 ++ c → s4 ≡ s3 ++ d →
+    s4 ≡ s0 ++ (a ++ (b ++ (c ++ d)))
+four s0 a b c d first second third fourth = two s0 a (b ++ (c ++ d)) first (two _ b (c ++ d) second (two _ c d third fourth))

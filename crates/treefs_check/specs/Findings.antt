@@ -13,6 +13,7 @@ is_damage (finding.NotFound name) = true
 is_damage (finding.FewLinks n) = true
 is_damage (finding.ManyLinks n) = false
 is_damage (finding.Parent n) = false
+is_damage (finding.TooLong n) = true
 is_damage (finding.PastSize n) = false
 
 abbrev pub if_finding : Option Finding → List Finding

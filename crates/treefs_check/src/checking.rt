@@ -12,7 +12,7 @@ use treefs_mending::survey_names;
 use xn_state::Store;
 
 /// Tells all that is wrong with a volume as its newest bytes are: whether inode 1 is a directory; names that are one too many; names that look-ups do not find;
-/// and of each inode, numbers rising, its links, its parent, and what stands past its size. It is strict where there is nothing, which is so once a mount has
+/// and of each inode, numbers rising, its links, its parent, its size, and what stands past that. It is strict where there is nothing, which is so once a mount has
 /// mended it, and between calls once all is written; a crash leaves nothing that is damage. `Err` comes only for want of memory.
 pub fn check<S: Store>(alloc: Global, store: &S, tree: Tree) -> Result<Vec<Finding>, AllocError>
     ensures { IfOk result (λ findings. AreFindings (S.state_of store.now) tree findings.items) }

@@ -22,6 +22,8 @@ pub enum Finding {
     ManyLinks(u32),
     /// The directory of a number says another parent than the directory in which it is found.
     Parent(u32),
+    /// The inode of a number says a size that no file has.
+    TooLong(u32),
     /// Something stands past the size of the file or symbolic link of a number.
     PastSize(u32),
 }
@@ -32,9 +34,11 @@ impl Finding {
         ensures { result ≡ is_damage self.now }
     {
         match self {
-            Finding::NoTop | Finding::NoInode(_) | Finding::NotFound(_) | Finding::FewLinks(_) => {
-                true
-            }
+            Finding::NoTop
+            | Finding::NoInode(_)
+            | Finding::NotFound(_)
+            | Finding::FewLinks(_)
+            | Finding::TooLong(_) => true,
             Finding::Surplus(_)
             | Finding::ManyLinks(_)
             | Finding::Parent(_)

@@ -3,12 +3,23 @@
 ghost use Rattle.std.specs.Prelude.{◌≡◌, ◌++◌, IfOk, List};
 ghost use Rattle.treefs_lookup.specs.Readable.{readable};
 ghost use Rattle.treefs_check.specs.Findings.{Finding, if_finding};
-ghost use Rattle.treefs_check.specs.Inodes.{AreInodeFindings, AreOfInode, IsSizeFinding, least_links, links_finding, names_of, parent_finding, surplus_count};
+ghost use Rattle.treefs_check.specs.Inodes.{
+  AreInodeFindings,
+  AreOfInode,
+  IsSizeFinding,
+  least_links,
+  links_finding,
+  long_finding,
+  names_of,
+  parent_finding,
+  surplus_count,
+};
 ghost use Rattle.treefs_mending.specs.Inodes.{inode_plan};
 
 use crate::finding::Finding;
 use std::alloc::AllocError;
 use treefs_edits::Tree;
+use treefs_format::sizes::GREATEST_SIZE;
 use treefs_lookup::is_trimmed;
 use treefs_mending::{InodePlan, Name, Numbered, Survey, next_inode, plan_inode, tally_at};
 use xn_state::Store;
@@ -76,6 +87,17 @@ fn push_if(findings: &mut Vec<Finding>, finding: Option<Finding>) -> Result<(), 
     Ok(())
 }
 
+/// What is wrong with the size of an inode.
+fn long_finding(numbered: &Numbered) -> Option<Finding>
+    ensures { result ≡ long_finding numbered.now }
+{
+    if numbered.inode.fields.size > GREATEST_SIZE {
+        Some(Finding::TooLong(numbered.number))
+    } else {
+        None
+    }
+}
+
 /// What is wrong with what stands past the size of an inode.
 fn size_finding<S: Store>(store: &S, tree: Tree, numbered: &Numbered) -> Option<Finding>
     ensures { IsSizeFinding (readable (S.state_of store.now) tree.fs.number) numbered.now result }
@@ -101,6 +123,7 @@ fn push_inode<S: Store>(
     let plan = plan_of(survey, numbered);
     push_if(findings, links_finding(survey, numbered, plan.links))?;
     push_if(findings, parent_finding(numbered, plan.parent))?;
+    push_if(findings, long_finding(numbered))?;
     push_if(findings, size_finding(store, tree, numbered))
 }
 

@@ -10,4 +10,4 @@ mod passes;
 
 pub use closing::close;
 pub use flushing::flush_volume;
-pub use opening::open;
+pub use opening::{mend, open};

@@ -69,8 +69,10 @@ fn repeat<S: FlushStore>(
     Err(Fault::Full)
 }
 
-/// Mends a volume that was not closed: first its names, and then its inodes by the names that are left.
-fn mend<S: FlushStore>(alloc: Global, store: &mut S, volume: &mut Volume) -> Result<(), Fault>
+/// Mends a volume whatever it says of itself: first its names, and then its inodes by the names that are left. An inode that was begun and has no name is
+/// freed, too. The faults are `NotDir` where inode 1 is no directory, and `NoEntry` where it is no inode or has no link; `Full` where a pass was made 2,097,152
+/// times and is not done; `Kernel` for want of memory, or where the store refuses an edit or a flush: then it is called again.
+pub fn mend<S: FlushStore>(alloc: Global, store: &mut S, volume: &mut Volume) -> Result<(), Fault>
     ensures types { S.types_of store.new ≡ S.types_of store.old }
     ensures does { MendsVolume (S.types_of store.old) (S.state_of store.old) (S.state_of store.new) volume.old volume.new result }
 {

@@ -1,2 +1,2 @@
 pub mod Begun
-pub mod Appending
+pub mod Writing

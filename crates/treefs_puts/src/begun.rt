@@ -2,7 +2,7 @@
 
 ghost use Rattle.std.specs.Prelude.{◌≡◌};
 ghost use Rattle.treefs_lookup.specs.Readable.{readable};
-ghost use Rattle.treefs_puts.specs.Begun.{appended_file, begun_file};
+ghost use Rattle.treefs_puts.specs.Begun.{begun_file, written_begun};
 
 use edit_list::Fs;
 use treefs_format::Kind;
@@ -22,12 +22,12 @@ fn find_begun<S: Store>(store: &S, fs: Fs, inode: u32) -> Result<Found, Fault>
     }
 }
 
-/// The same, where bytes may stand behind its end. The faults are `NoEntry`, `IsDir`, and `TooLarge` where it has the greatest size.
-pub fn find_appended<S: Store>(store: &S, fs: Fs, inode: u32) -> Result<Found, Fault>
-    ensures { result ≡ appended_file (readable (S.state_of store.now) fs.number) inode }
+/// The same, in which bytes from one on may be written. The faults are `NoEntry`, `IsDir`, and `TooLarge` at or past the greatest size.
+pub fn find_written<S: Store>(store: &S, fs: Fs, inode: u32, at: u64) -> Result<Found, Fault>
+    ensures { result ≡ written_begun (readable (S.state_of store.now) fs.number) inode at }
 {
     let file = find_begun(store, fs, inode)?;
-    if file.fields.size >= GREATEST_SIZE {
+    if at >= GREATEST_SIZE {
         return Err(Fault::TooLarge);
     }
     Ok(file)

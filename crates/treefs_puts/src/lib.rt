@@ -2,7 +2,7 @@
 //! May touch: memory.
 #![tactic(auto)]
 
-mod appending;
 mod begun;
+mod writing;
 
-pub use appending::append;
+pub use writing::write_begun;

@@ -13,10 +13,10 @@ use treefs::{Attributes, Volume};
 use treefs_byte_plans::{Attributes as Settings, Owner};
 use treefs_check::check;
 use treefs_format::Kind;
-use treefs_lookup::{find_entry, find_inode, read, read_link};
+use treefs_lookup::{find_block, find_entry, find_inode, read, read_link};
 use treefs_model::Fault;
 use treefs_paths::find_path;
-use treefs_puts::append;
+use treefs_puts::write_begun;
 use xn_state::Store;
 
 /// The most bytes that stand in an inode's own block.
@@ -222,6 +222,21 @@ fn write_and_name<S: Store>(
     };
     let directory = asked.number(1);
     volume.commit(alloc, store, block, directory, &asked.name, replace)
+}
+
+/// Writes a piece of bytes behind the end of an inode that was begun.
+fn append<S: Store>(
+    alloc: Global,
+    store: &mut S,
+    volume: &Volume,
+    block: u32,
+    bytes: &[u8],
+) -> Result<usize, Fault> {
+    let end = match find_block(store, volume.tree.fs, block) {
+        Ok(found) => found.fields.size,
+        Err(_) => 0,
+    };
+    write_begun(alloc, store, volume, block, end, bytes)
 }
 
 /// Writes bytes behind the end of an inode that was begun, piece by piece.

@@ -1,1 +1,2 @@
 pub mod Tried
+mod Written

@@ -9,17 +9,17 @@ use Rattle.treefs_model.specs.declared.fault.Fault.{Fault}
 use Rattle.treefs_model.specs.declared.fault.Fault.TheVariants.{Full}
 use Rattle.treefs.specs.Writing.{WriteDoes}
 use Rattle.treefs.specs.declared.volume.Volume.{Volume}
-use Rattle.treefs_puts.specs.Appending.{AppendDoes}
+use Rattle.treefs_puts.specs.Writing.{WriteBegunDoes}
 use Rattle.treefs_session.specs.Freeing.{MakesFreely}
 use Rattle.treefs_session.specs.declared.calls.bytes.Target.{Target}
 use Rattle.treefs_session.specs.declared.calls.bytes.Target.TheVariants.{Begun, Numbered}
 
 abbrev pub advanced : Target → ℕ → Target
-advanced (Begun block) taken = Begun block
+advanced (Begun block at) taken = Begun block (min (at + taken) (2 ^ 64 - 1))
 advanced (Numbered number at) taken = Numbered number (min (at + taken) (2 ^ 64 - 1))
 
 abbrev pub WritesPiece : Types → Target → List ℕ → StoreState → StoreState → Volume → Volume → Result ℕ Fault → Type 0
-WritesPiece T (Begun block) bytes old new volume volume' result = AppendDoes T old new volume block bytes result × (volume' ≡ volume)
+WritesPiece T (Begun block at) bytes old new volume volume' result = WriteBegunDoes T old new volume block at bytes result × (volume' ≡ volume)
 WritesPiece T (Numbered number at) bytes old new volume volume' result = WriteDoes T old new volume volume' number at bytes result
 
 abbrev pub WritesSome : Types → List ℕ → Target → List ℕ → StoreState → StoreState → Volume → Volume → Result ℕ Fault → Type 0

@@ -25,8 +25,8 @@ Names T held put block = MakesFreely
 
 abbrev pub WritesAndNames : Types → List ℕ → Put → ℕ → StoreState → StoreState → Volume → Volume → Result ℕ Fault → Type 0
 WritesAndNames T held put block old new volume volume' result =
-    MatchResult result (λ number. ⊥) (λ fault. WritesAll T held (Begun block) (drop 384 put.bytes.now) old new volume volume' (Err fault))
-    ⊎ ((middle : StoreState) × (between : Volume) × WritesAll T held (Begun block) (drop 384 put.bytes.now) old middle volume between (Ok tt)
+    MatchResult result (λ number. ⊥) (λ fault. WritesAll T held (Begun block 384) (drop 384 put.bytes.now) old new volume volume' (Err fault))
+    ⊎ ((middle : StoreState) × (between : Volume) × WritesAll T held (Begun block 384) (drop 384 put.bytes.now) old middle volume between (Ok tt)
     × Names T held put block middle new between volume' result)
 
 -- the inode is given up where that failed; given: what that answers, which isn't told

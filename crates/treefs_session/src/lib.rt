@@ -4,6 +4,7 @@
 
 mod call;
 mod calls;
+pub mod law;
 mod put;
 mod session;
 mod tries;

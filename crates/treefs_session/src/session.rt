@@ -3,6 +3,7 @@
 ghost use Rattle.std.specs.Prelude.{◌≡◌, Err, IfErr, IfOk, Ok};
 ghost use Rattle.treefs.specs.Making.{MkfsDoes};
 ghost use Rattle.treefs.specs.Opening.{opened};
+ghost use Rattle.treefs_mounts.specs.Opening.{MendsVolume};
 ghost use Rattle.treefs_session.specs.Opening.{Closes, IsNotClosed, IsNotOpened, IsOpened, with_clock};
 
 use crate::calls::lives::Close;
@@ -156,6 +157,16 @@ impl<S: FlushStore> Session<S> {
         ensures { result.now ≡ self.now.volume }
     {
         &self.volume
+    }
+
+    /// Mends the volume as `treefs_mounts::mend` does it, also where it was closed, and writes that. It is for a session that was just opened: an inode that was
+    /// begun, and one that has lost its last name, are freed, held or not.
+    pub fn mend(&mut self, alloc: Global) -> Result<(), Fault>
+        ensures types { S.types_of self.new.store ≡ S.types_of self.old.store }
+        ensures does { MendsVolume (S.types_of self.old.store) (S.state_of self.old.store) (S.state_of self.new.store) self.old.volume self.new.volume
+            result }
+    {
+        treefs_mounts::mend(alloc, &mut self.store, &mut self.volume)
     }
 
     /// Sets the time of the calls from now on, in nanoseconds since 1970.

@@ -56,9 +56,11 @@ module _ (count : ℕ) (ts : List TemplateValue) (none : format_fault count (len
       let bytes = ap length is ∙ length-joined (formatted count ts) long.1 in
       let most = (no_fault count (length ts) none).0.1 in
       elim is_fault [
-        | inl none ↦ none
-        | inr (inl past) ↦ absurd (omega (arith, past.0, bytes, long.0, most))
-        | inr (inr found) ↦
-            absurd (verdict-unsound (types_of_image (blocks_in image)) (built_ins_in language (block_of (blocks_in image))) image fault found.1
-            (whole_image image (omega arith) sound))
+        | inl past ↦ absurd (omega (arith, past.0, bytes, long.0, most))
+        | inr found ↦ elim found.1 [
+          | inl none ↦ none
+          | inr is ↦
+              absurd (verdict-unsound (types_of_image (blocks_in image)) (built_ins_in language (block_of (blocks_in image))) image fault is
+              (whole_image image (omega arith) sound))
+        ]
       ]

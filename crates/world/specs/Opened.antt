@@ -11,9 +11,8 @@ use Rattle.templates.specs.Language.{types_of_image}
 abbrev pub IsHeldWhole : List ℕ → Type 0
 IsHeldWhole image = length image ≤ 512 * most_formatted
 
--- why no world is made of an image: there are too many blocks, or it isn't sound, and then its first fault; or want of memory
+-- why no world is made of an image: there are too many blocks; and else it isn't sound, and then its first fault, or want of memory
 abbrev pub IsOpenFault : List ℕ → ImageFault → Type 0
 IsOpenFault image fault =
-    (fault ≡ NoMemory)
-    ⊎ ((512 * most_formatted < length image) × (fault ≡ BadLength))
-    ⊎ (IsHeldWhole image × (verdict (types_of_image (blocks_in image)) image ≡ Err fault))
+    ((512 * most_formatted < length image) × (fault ≡ BadLength))
+    ⊎ (IsHeldWhole image × ((fault ≡ NoMemory) ⊎ (verdict (types_of_image (blocks_in image)) image ≡ Err fault)))

@@ -9,7 +9,7 @@ use tree_changes::{
     remove_folders, rename, set_attributes, touch, truncate,
 };
 use tree_lines::{Fault, Opened, at_word};
-use tree_transfers::{Putting, put};
+use tree_puts::{Putting, put};
 use xnfs_words::Word;
 
 /// What a line brings in from.

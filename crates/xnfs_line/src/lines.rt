@@ -1,5 +1,8 @@
 // A line of the program.
 
+ghost use Rattle.std.specs.Prelude.{IfOk};
+ghost use Rattle.flush_store.specs.Written.{AllWritten};
+
 use crate::changing::Sources;
 use crate::fault::LineFault;
 use crate::looking::{Looked, is_looking, look};
@@ -19,9 +22,10 @@ use std::io::{BufRead, Cursor, Read, Write};
 use std::random::RandomSource;
 use std::thread::Threads;
 use std::time::Clock;
+use store_types::Refusal;
 use tree_disks::{VolumeKind, find_volume, format, open, open_for_tests};
 use tree_lines::{Fault, Opened, TOP, Told, reason_of};
-use tree_looks::{check, count_damage, tell_left};
+use tree_looks::{count_damage, look_to_repair};
 use treefs::BlockTypes;
 use treefs_session::Session;
 use xnfs_session::Stop;
@@ -143,56 +147,78 @@ fn run_opened<H: Host, S: FlushStore + Drop>(
     Ok(status)
 }
 
-/// Looks at a volume of trees before it is opened to be changed, and answers the store. The fault is `Faults` where it is damaged: then it stays as it is.
-/// Prints what `check --repair` is to mend: nothing where the volume was closed.
+/// Looks at a volume of trees before it is opened to be changed, and answers the store, and whether the volume is to be mended though it was closed. It stays as
+/// it is where it is damaged: the fault is `Faults`. `check --repair` may mend it, and prints what it will mend; its faults are those of `look_to_repair`.
 fn look_before<S: FlushStore + Drop>(
     alloc: Global,
     (store, types): (S, BlockTypes),
     asked: &Asked,
     out: &mut impl Write,
-) -> Result<S, LineFault> {
+) -> Result<(S, bool), LineFault> {
     let session = open_to_look(alloc, (store, types), asked)?;
     let (store, tree) = (session.store(), session.volume().tree);
-    let damage = count_damage(alloc, store, tree)?;
+    let is_closed = session.volume().is_closed(store);
     if let Word::Check { is_json, .. } = &asked.word {
-        if damage > 0 {
-            check(alloc, store, tree, *is_json, out)?;
-        } else if !*is_json && !session.volume().is_closed(store) {
-            tell_left(alloc, store, tree, out)?;
-        }
+        let is_wrong = look_to_repair(alloc, (store, tree), is_closed, *is_json, out)?;
+        return Ok((session.into_store(), is_wrong && is_closed));
     }
-    if damage > 0 {
-        return Err(Fault::Faults(damage).into());
+    match count_damage(alloc, store, tree)? {
+        0 => Ok((session.into_store(), false)),
+        damage => Err(Fault::Faults(damage).into()),
     }
-    Ok(session.into_store())
 }
 
-/// Does what a word asks for on a volume of trees that is not damaged, mended where a crash left it, and closes that: all is on the disk then. After a failure
-/// of the disk nothing more is written, so that its fault is the one that is told.
-fn change_trees<H: Host, S: FlushStore + Drop>(
-    (host, clock): (&H, &impl Clock),
+/// Closes a volume behind what a word did on it, and answers the status of that with the store: all is on the disk then. After a failure of the disk nothing more
+/// is written, so that its fault is the one that is told.
+fn close_behind<S: FlushStore + Drop>(
     alloc: Global,
-    (store, types, system): (S, BlockTypes, SystemFault),
+    opened: Opened<S>,
+    done: Result<u8, LineFault>,
+    image: &str,
+    out: &mut impl Write,
+    err: &mut impl Write,
+) -> Result<(u8, S), LineFault>
+    ensures written { IfOk result (λ ended. AllWritten (S.state_of ended.1).lives) }
+{
+    if opened.is_broken() {
+        return match done {
+            Ok(_) => Err(Fault::Flush(Refusal::Device).into()),
+            Err(fault) => Err(fault),
+        };
+    }
+    match opened.close(alloc) {
+        Ok(store) => Ok((done?, store)),
+        Err(fault) => {
+            if let Err(first) = done {
+                let _ = tell(out, err, image, &first);
+            }
+            Err(fault.into())
+        }
+    }
+}
+
+/// Does what a word asks for on a volume of trees that is not damaged, mended where a crash left it or a repair is asked for, and closes that. Answers the status,
+/// and the store: where no fault ends the line all that it did is on the disk.
+fn change_trees<H: Host, S: FlushStore + Drop>(
+    outside: (&H, &impl Clock),
+    alloc: Global,
+    volume: (S, BlockTypes, SystemFault),
     asked: &Asked,
     input: &mut impl BufRead,
     out: &mut impl Write,
     err: &mut impl Write,
-) -> Result<u8, LineFault> {
-    let store = look_before(alloc, (store, types), asked, out)?;
+) -> Result<(u8, S), LineFault>
+    ensures written { IfOk result (λ ended. AllWritten (S.state_of ended.1).lives) }
+{
+    let (store, types, system) = volume;
+    let (store, is_to_mend) = look_before(alloc, (store, types), asked, out)?;
     let place = (asked.fs, types, asked.time);
     let mut opened = Opened::open(alloc, store, place, Some(system))?;
-    let done = run_opened((host, clock), &mut opened, alloc, asked, input, out, err);
-    if opened.is_broken() {
-        return done;
+    if is_to_mend {
+        opened.mend(alloc)?;
     }
-    match (done, opened.close(alloc)) {
-        (done, Ok(_store)) => done,
-        (Ok(_), Err(fault)) => Err(fault.into()),
-        (Err(first), Err(fault)) => {
-            let _ = tell(out, err, asked.image, &first);
-            Err(fault.into())
-        }
-    }
+    let done = run_opened(outside, &mut opened, alloc, asked, input, out, err);
+    close_behind(alloc, opened, done, asked.image, out, err)
 }
 
 /// Does what a line asks for on the disk of a store, and answers its status.
@@ -211,7 +237,8 @@ fn run_disk<H: Host, S: FlushStore + Drop>(
         }
         VolumeKind::Trees(types) => {
             let volume = (store, types, system);
-            change_trees((host, clock), alloc, volume, asked, input, out, err)
+            let changed = change_trees((host, clock), alloc, volume, asked, input, out, err)?;
+            Ok(changed.0)
         }
         VolumeKind::First => look_at_first(host, alloc, store, asked, out, err),
     }

@@ -3,9 +3,11 @@
 use host_trees::Host;
 use std::alloc::Global;
 use std::io::Write;
+use tree_gets::{Getting, get};
 use tree_lines::{Fault, Told, View};
-use tree_looks::{Listing, Sought, cat, list, measure, read_link, search, stat, tree, usage};
-use tree_transfers::{Getting, get};
+use tree_looks::{
+    Listing, Measuring, Sought, UsageForm, cat, list, measure, read_link, search, stat, tree, usage,
+};
 use treefs_format::Kind;
 use xnfs_words::{FoundKind, ListForm, Word};
 
@@ -35,7 +37,19 @@ fn listing_of(form: ListForm) -> Listing {
         is_long: form.is_long,
         has_hidden: form.has_hidden,
         is_recursive: form.is_recursive,
+        is_human: form.is_human,
         is_json: form.is_json,
+    }
+}
+
+/// How free space is told.
+fn usage_form(is_json: bool, is_human: bool) -> UsageForm {
+    if is_json {
+        UsageForm::Json
+    } else if is_human {
+        UsageForm::Human
+    } else {
+        UsageForm::Blocks
     }
 }
 
@@ -80,10 +94,20 @@ pub fn look<V: View, H: Host>(
             };
             search(view, alloc, told, (folder, paths), sought, out)
         }
-        Word::DiskUsage { paths, is_summary } => {
-            measure(view, alloc, told, (folder, paths), *is_summary, out)
+        Word::DiskUsage {
+            paths,
+            is_summary,
+            is_human,
+        } => {
+            let how = Measuring {
+                is_summary: *is_summary,
+                is_human: *is_human,
+            };
+            measure(view, alloc, told, (folder, paths), how, out)
         }
-        Word::FreeSpace { is_json } => usage(view, alloc, *is_json, out),
+        Word::FreeSpace { is_json, is_human } => {
+            usage(view, alloc, usage_form(*is_json, *is_human), out)
+        }
         Word::Get { paths, target } => {
             let getting = Getting {
                 folder,

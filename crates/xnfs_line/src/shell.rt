@@ -1,5 +1,8 @@
 // A shell: words read line by line, done on one open volume.
 
+ghost use Rattle.std.specs.Prelude.{OnOk};
+ghost use Rattle.flush_store.specs.Written.{AllWritten};
+
 use crate::changing::Sources;
 use crate::fault::LineFault;
 use crate::status::{DONE, FAILED, USAGE};
@@ -12,6 +15,7 @@ use std::alloc::{AllocError, Global};
 use std::io::{BufRead, Read, Write};
 use std::time::Clock;
 use std::{io, str};
+use store_types::Refusal;
 use tree_lines::{Fault, Opened, Reason, TOP, View, at, find};
 use xnfs_words::{Word, prepared, read_shell, split, unknown_shell_command};
 
@@ -203,8 +207,23 @@ fn run_shell_word<H: Host, S: FlushStore + Drop>(
     };
     let mut none: &[u8] = &[];
     let done = run_word(host, opened, alloc, (word, sources), &mut none, out);
-    if shell.is_lazy || opened.is_broken() || crate::looking::is_looking(word) {
+    if shell.is_lazy || crate::looking::is_looking(word) {
         return done;
+    }
+    sync_behind(opened, alloc, done)
+}
+
+/// Writes what a word left pending. After a failure of the disk nothing more is written.
+fn sync_behind<S: FlushStore + Drop>(
+    opened: &mut Opened<S>,
+    alloc: Global,
+    done: Result<(), Fault>,
+) -> Result<(), Fault>
+    ensures written { OnOk result (AllWritten (S.state_of opened.new.session.store).lives) }
+{
+    if opened.is_broken() {
+        done?;
+        return Err(Fault::Flush(Refusal::Device));
     }
     let synced = opened.sync(alloc);
     done?;

@@ -79,6 +79,17 @@ pub const JSON: Part = Part::Flag(Flag {
     help: "tell it as one JSON value",
 });
 
+/// The name of the flag by which sizes are told as people read them.
+pub const HUMAN_NAME: &str = "human-readable";
+
+/// That sizes are told as people read them. Its letter is that of the help, which has only its long name then.
+pub const HUMAN: Part = Part::Flag(Flag {
+    name: HUMAN_NAME,
+    short: Some('h'),
+    alias: None,
+    help: "sizes as 1.5K and 64M",
+});
+
 /// Where a command is read.
 #[derive(Clone, Copy, Debug, PartialEq, Eq)]
 pub enum Place {

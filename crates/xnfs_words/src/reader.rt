@@ -106,6 +106,22 @@ fn part<'a>(alloc: Global, part: &Part) -> Result<Arg<'a>, AllocError> {
     Ok(made)
 }
 
+/// The help of a command that has another use for its letter.
+fn long_help<'a>(alloc: Global) -> Arg<'a> {
+    Arg::new(alloc, "help")
+        .long("help")
+        .action(ArgAction::Help)
+        .help("Print help")
+}
+
+/// Whether a part of a command takes the letter of the help.
+fn takes_help_letter(part: &Part) -> bool {
+    match part {
+        Part::Flag(flag) => flag.short == Some('h'),
+        _ => false,
+    }
+}
+
 /// A command of this form.
 fn command<'a>(alloc: Global, form: &Form) -> Result<Command<'a>, AllocError> {
     let mut command = Command::new(alloc, form.name)
@@ -113,6 +129,9 @@ fn command<'a>(alloc: Global, form: &Form) -> Result<Command<'a>, AllocError> {
         .after_help(form.after);
     for it in form.parts {
         command = command.arg(part(alloc, it)?)?;
+    }
+    if form.parts.iter().any(|part| takes_help_letter(part)) {
+        command = command.disable_help_flag(true).arg(long_help(alloc))?;
     }
     Ok(command)
 }

@@ -1,5 +1,6 @@
 // What a command line asks for.
 
+use crate::forms::HUMAN_NAME;
 use crate::reader::{disk_reader, format_reader, shell_reader};
 use crate::sizes::{blocks_of, size_of};
 use crate::word::{FoundKind, ListForm, Word};
@@ -70,6 +71,7 @@ impl<'a, 'f> Found<'a, 'f> {
             is_long: self.has("long"),
             has_hidden: self.has("all"),
             is_recursive: self.has("recursive"),
+            is_human: self.has(HUMAN_NAME),
             is_json: self.has("json"),
         }
     }
@@ -112,6 +114,7 @@ impl<'a, 'f> Found<'a, 'f> {
             "du" => Word::DiskUsage {
                 paths: self.paths()?,
                 is_summary: self.has("summarize"),
+                is_human: self.has(HUMAN_NAME),
             },
             _ => return Ok(None),
         };
@@ -187,6 +190,7 @@ impl<'a, 'f> Found<'a, 'f> {
         let word = match name {
             "df" => Word::FreeSpace {
                 is_json: self.has("json"),
+                is_human: self.has(HUMAN_NAME),
             },
             "check" => Word::Check {
                 is_repairing: self.has("repair"),

@@ -9,6 +9,8 @@ pub struct ListForm {
     pub has_hidden: bool,
     /// The folders below too.
     pub is_recursive: bool,
+    /// With sizes as people read them.
+    pub is_human: bool,
     /// As one JSON value.
     pub is_json: bool,
 }
@@ -56,10 +58,12 @@ pub enum Word<'a> {
     DiskUsage {
         paths: Vec<&'a str>,
         is_summary: bool,
+        is_human: bool,
     },
     /// What is taken and what is left, beside the limits.
     FreeSpace {
         is_json: bool,
+        is_human: bool,
     },
     /// The disk and its volume are checked, and what can be mended is mended where that is asked.
     Check {

@@ -94,6 +94,7 @@ module _ (old mid new : Option (List ℕ)) (flushed : Keeps mid new) where
     events = done.events;
     after = done.after;
     image_held = done.image_held;
+    held_whole = done.held_whole;
     script_held = done.script_held;
     script_short = done.script_short;
     script = done.script;

@@ -8,7 +8,7 @@ use Rattle.xnsim_line.specs.declared.invocation.Invocation.TheVariants.{Bare, Fo
 use Rattle.xnsim_line.specs.declared.fault.Fault.{Fault}
 use Rattle.xnsim_line.specs.declared.fault.Fault.TheVariants.{Usage, CannotRead, Unreadable, Image, CannotWrite, NoMemory, Program, Owns, Size, Template}
 use Rattle.xnsim_line.specs.declared.fault.Fault.TheVariants.{TooManyTemplates, TooManyWords, Stream}
-use Rattle.world.specs.Opened.{IsOpenFault}
+use Rattle.world.specs.Opened.{IsHeldWhole, IsOpenFault}
 use Rattle.xnsim_line.specs.Assembling.{IsTemplateFault, PrintsTemplate}
 use Rattle.udf_verify.specs.declared.fault.Role.{Role}
 use Rattle.xnsim_line.specs.Files.{Held, IsHeld, with_file}
@@ -31,7 +31,7 @@ pub record PrintsReplies (known : Option (List ℕ)) (blocks : ℕ) (templates :
   pub script : IsScript text events
   pub run : IsPrintedRun (fresh_world blocks templates) events old new image
 
--- the script of a file was run on the disk of a file's image, which is sound, to its end or to a stop, its replies printed, and
+-- the script of a file was run on the disk of a file's image, which is sound and no larger than a world, to its end or to a stop, its replies printed, and
 -- what is then on the disk written back
 pub record PrintsMounted (held held_after : Held) (image_name script_name : List ℕ) (stop : Option Stop) (old new : Option (List ℕ)) : Type 0 where
   pub image : List ℕ
@@ -39,6 +39,7 @@ pub record PrintsMounted (held held_after : Held) (image_name script_name : List
   pub events : List Event
   pub after : List ℕ
   pub image_held : IsHeld held image_name image
+  pub held_whole : IsHeldWhole image
   pub script_held : IsHeld held script_name text
   pub script_short : length text ≤ 67108864
   pub script : IsScript text events

@@ -8,13 +8,13 @@ use flush_store::FlushStore;
 use std::alloc::Global;
 use treefs::Volume;
 use treefs_model::Fault;
-use treefs_puts::append;
+use treefs_puts::write_begun;
 
 /// Where bytes are written.
 #[derive(Clone, Copy, Debug)]
 pub enum Target {
-    /// Behind the end of the inode that was begun and has this block.
-    Begun(u32),
+    /// In the inode that was begun and has this block, from a byte on.
+    Begun(u32, u64),
     /// In the inode of a number, from a byte on.
     Numbered(u32, u64),
 }
@@ -25,7 +25,7 @@ impl Target {
         ensures { result ≡ advanced self taken }
     {
         match self {
-            Target::Begun(block) => Target::Begun(block),
+            Target::Begun(block, at) => Target::Begun(block, at.saturating_add(taken as u64)),
             Target::Numbered(number, at) => {
                 Target::Numbered(number, at.saturating_add(taken as u64))
             }
@@ -33,7 +33,7 @@ impl Target {
     }
 }
 
-/// Writes a piece of some bytes, and answers how many that are: `append` to an inode that was begun, and else `write_some` of a volume.
+/// Writes a piece of some bytes, and answers how many that are: by `write_begun` in an inode that was begun, and else by `write_some` of a volume.
 #[derive(Clone, Copy, Debug)]
 pub struct Write<'a> {
     pub target: Target,
@@ -52,7 +52,7 @@ impl Call for Write<'_> {
         volume: &mut Volume,
     ) -> Result<usize, Fault> {
         match self.target {
-            Target::Begun(block) => append(alloc, store, volume, block, self.bytes),
+            Target::Begun(block, at) => { write_begun(alloc, store, volume, block, at, self.bytes) }
             Target::Numbered(number, at) => {
                 volume.write_some(alloc, store, number, at, self.bytes)
             }

@@ -29,7 +29,8 @@ impl<S: FlushStore> Session<S> {
             self.old.volume self.new.volume result }
     {
         let rest = behind(put.bytes, HEAD);
-        if let Err(fault) = self.write_all(alloc, held, Target::Begun(block), rest) {
+        let target = Target::Begun(block, HEAD as u64);
+        if let Err(fault) = self.write_all(alloc, held, target, rest) {
             return Err(fault);
         }
         let commit = Commit {

@@ -1,6 +1,6 @@
 // The commands that look.
 
-use super::{Choice, Flag, Form, JSON, PATHS, Part};
+use super::{Choice, Flag, Form, HUMAN, JSON, PATHS, Part};
 
 static FORMS: [Form; 9] = [
     Form {
@@ -27,6 +27,7 @@ static FORMS: [Form; 9] = [
                 alias: None,
                 help: "the folders below too",
             }),
+            HUMAN,
             JSON,
         ],
     },
@@ -90,13 +91,14 @@ static FORMS: [Form; 9] = [
                 alias: None,
                 help: "the sum of each path alone",
             }),
+            HUMAN,
         ],
     },
     Form {
         name: "df",
         about: "tell what is taken, what is left, and the limits",
         after: "Example: xnfs disk.img df",
-        parts: &[JSON],
+        parts: &[HUMAN, JSON],
     },
     Form {
         name: "check",

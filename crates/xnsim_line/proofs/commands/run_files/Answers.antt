@@ -23,6 +23,7 @@ returns-clause-done g c =
       events = run.0;
       after = joined c.in_ok-after.after.image;
       image_held = whole_held held c.args.image.now image 16777217 start few;
+      held_whole = c.in_ok-after.ensures.held;
       script_held = search rules;
       script_short = search rules;
       script = subst (λ lines. AllSpell lines run.0) c.in_ok-lines.ensures.lines run.1;

@@ -13,6 +13,6 @@ returns-clause-does g c =
     let new = g.S.Store.state_of c.make.new.self.store in
     let volume = c.args.self.now.volume in
     let between = c.write_all.new.self.volume in
-    let writes = subst (λ (bytes : List ℕ). WritesAll T c.args.held.now (Begun c.args.block) bytes old middle volume between (Ok tt)) c.behind-rest.ensures c.in_default.ensures.does in
+    let writes = subst (λ (bytes : List ℕ). WritesAll T c.args.held.now (Begun c.args.block 384) bytes old middle volume between (Ok tt)) c.behind-rest.ensures c.in_default.ensures.does in
     let names = subst (λ (t : Types). Names t c.args.held.now c.args.put.now c.args.block middle new between c.make.new.self.volume c.make.result) c.write_all.ensures.types c.make.ensures.does in
     inr (middle, between, writes, names)

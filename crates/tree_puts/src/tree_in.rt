@@ -2,11 +2,9 @@
 
 use crate::arriving::{Arriving, Goods};
 use crate::linking::link;
-use crate::naming::joined;
 use crate::pieces::OpenFile;
-use crate::sparse::{is_sparse, put_sparse};
 use flush_store::FlushStore;
-use host_trees::{Attributes, Host, Kind};
+use host_trees::{Attributes, Host, Kind, joined};
 use std::alloc::Global;
 use system_files::WriteFault;
 use tree_lines::{Fault, Place, Reason, at, at_bytes, at_word, below, not_written, system, there};
@@ -161,11 +159,7 @@ pub fn put_regular<H: Host, S: FlushStore + Drop>(
     piece: &mut [u8],
 ) -> Result<(), Fault> {
     let mut incoming: OpenFile<H> = OpenFile { file };
-    let number = if is_sparse(goods.attributes) {
-        put_sparse(arriving, goods, &mut incoming, piece)?
-    } else {
-        arriving.put_file(goods, &mut incoming, piece)?
-    };
+    let number = arriving.put_file(goods, &mut incoming, piece)?;
     arriving.note(goods.attributes, number)?;
     arriving.set_time(goods.path, number, goods.attributes.modified)
 }

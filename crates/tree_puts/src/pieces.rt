@@ -6,9 +6,6 @@ use host_trees::Host;
 use std::io;
 use std::io::{ErrorKind, Read};
 
-/// So many bytes are read at once at most.
-pub const PIECE: usize = 1_048_576;
-
 /// What bytes are read from, one behind the other.
 pub trait Incoming<H: Host> {
     /// Reads the next bytes, and answers how many they are: none at the end.

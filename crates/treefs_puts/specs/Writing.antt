@@ -1,8 +1,8 @@
--- What append does: the next piece of some bytes is written behind the end of an inode that was begun, and to which nothing points yet.
---     append_planned      what that piece answers, or takes
---     IsTrimToAppend      what is trimmed before
---     StepWrites          a piece is written
---     AppendDoes          what append does
+-- What `write_begun` does: the next piece of some bytes is written from a byte on of an inode that was begun, and to which nothing points yet.
+--     begun_planned         what that piece answers, or takes
+--     IsTrimToWriteBegun    what is trimmed before
+--     StepWrites            a piece is written
+--     WriteBegunDoes        what write_begun does
 use Rattle.std.specs.Prelude.{◌≡◌, ◌⊎◌, ℕ, ◌==◌, not, List, [], length, Option, Result, Ok, Err, MatchResult}
 use Rattle.xn_model.specs.Lives.{StoreState}
 use Rattle.xn_model.specs.Types.{Types}
@@ -18,15 +18,15 @@ use Rattle.treefs_byte_plans.specs.Writes.{Nothing, Piece, Run, Step, step_plann
 use Rattle.treefs_byte_plans.specs.declared.kept.Kept.{Kept}
 use Rattle.treefs.specs.Trimming.{TrimsFirst}
 use Rattle.treefs.specs.declared.volume.Volume.{Volume}
-use Rattle.treefs_puts.specs.Begun.{appended_file}
+use Rattle.treefs_puts.specs.Begun.{written_begun}
 
-abbrev pub append_planned : StoreState → Tree → Memory → ℕ → List ℕ → Result Step Fault
-append_planned state tree memory inode bytes = and_then (appended_file (readable state tree.fs.number) inode)
-    (λ file. step_planned state tree memory file.fields.size bytes file)
+abbrev pub begun_planned : StoreState → Tree → Memory → ℕ → ℕ → List ℕ → Result Step Fault
+begun_planned state tree memory inode at bytes =
+    and_then (written_begun (readable state tree.fs.number) inode at) (step_planned state tree memory at bytes)
 
 -- all past the size, where there are bytes to write
-abbrev pub IsTrimToAppend : (ℕ → List ℕ) → ℕ → ℕ → Option Kept → Type 0
-IsTrimToAppend content inode count = IsTrimSought content (appended_file content inode) (λ file. not (count == 0))
+abbrev pub IsTrimToWriteBegun : (ℕ → List ℕ) → ℕ → ℕ → ℕ → Option Kept → Type 0
+IsTrimToWriteBegun content inode at count = IsTrimSought content (written_begun content inode at) (λ file. not (count == 0))
 
 -- a plan is carried out, and answers how many bytes it takes
 abbrev pub Writes : Types → ℕ → Plan → ℕ → StoreState → StoreState → Result ℕ Fault → Type 0
@@ -40,9 +40,9 @@ StepWrites T fs bytes (Ok Nothing) old new result = (result ≡ Ok 0) × (new �
 StepWrites T fs bytes (Ok (Piece taken is_dated acts)) old new result = Writes T fs (record { starts = []; acts = λ begun. acts }) taken old new result
 StepWrites T fs bytes (Ok (Run plan)) old new result = Writes T fs (run_plan bytes plan) plan.taken old new result
 
-abbrev pub AppendDoes : Types → StoreState → StoreState → Volume → ℕ → List ℕ → Result ℕ Fault → Type 0
-AppendDoes T old new volume inode bytes result =
-    (kept : Option Kept) × IsTrimToAppend (readable old volume.tree.fs.number) inode (length bytes) kept
+abbrev pub WriteBegunDoes : Types → StoreState → StoreState → Volume → ℕ → ℕ → List ℕ → Result ℕ Fault → Type 0
+WriteBegunDoes T old new volume inode at bytes result =
+    (kept : Option Kept) × IsTrimToWriteBegun (readable old volume.tree.fs.number) inode at (length bytes) kept
     × (MatchResult result (λ taken. ⊥) (λ fault. TrimsFirst T volume.tree.fs.number volume.memory kept old new (Err fault))
     ⊎ ((middle : StoreState) × TrimsFirst T volume.tree.fs.number volume.memory kept old middle (Ok tt)
-    × StepWrites T volume.tree.fs.number bytes (append_planned middle volume.tree volume.memory inode bytes) middle new result))
+    × StepWrites T volume.tree.fs.number bytes (begun_planned middle volume.tree volume.memory inode at bytes) middle new result))

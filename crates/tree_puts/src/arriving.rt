@@ -2,10 +2,10 @@
 
 ghost use Rattle.std.specs.Prelude.{◌<◌};
 
-use crate::pieces::{Incoming, PIECE, read_piece};
-use crate::progress::Progress;
+use crate::pieces::{Incoming, read_piece};
+use crate::sparse::{is_sparse, write_parts};
 use flush_store::FlushStore;
-use host_trees::{Attributes as HostAttributes, Host};
+use host_trees::{Attributes as HostAttributes, Host, PIECE, Progress};
 use std::alloc::{AllocError, Global};
 use std::collections::BTreeMap;
 use tree_lines::{Fault, Opened, Place, Reason, at_bytes, system, there};
@@ -15,7 +15,7 @@ use treefs_format::Kind;
 use treefs_session::{Begin, Commit, Put, SetAttributes, SetMtime, Target};
 
 /// How many bytes of a file stand beside its attributes.
-const HEAD: usize = 384;
+pub const HEAD: usize = 384;
 
 /// How many bytes of a file stand in a block of their own.
 const LEAF: u64 = 512;
@@ -180,8 +180,8 @@ impl<'a, H: Host, S: FlushStore + Drop> Arriving<'a, H, S> {
         self.volume.put(self.alloc, goods.path, &put)
     }
 
-    /// Writes pieces behind the end of an inode that was begun, the first of them given, up to the last.
-    fn append_all<I: Incoming<H>>(
+    /// Writes pieces behind the first bytes of an inode that was begun, the first of them given, up to the last.
+    fn write_rest<I: Incoming<H>>(
         &mut self,
         goods: Goods,
         block: u32,
@@ -190,16 +190,17 @@ impl<'a, H: Host, S: FlushStore + Drop> Arriving<'a, H, S> {
         first: usize,
     ) -> Result<(), Fault> {
         let alloc = self.alloc;
-        let mut from = HEAD;
-        let mut to = first;
+        let (mut from, mut to) = (HEAD, first);
+        let mut at = HEAD as u64;
         for _ in 0..u64::MAX {
             let bytes = piece.get(from..to).unwrap_or(&[]);
             self.volume
-                .write_all(alloc, goods.path, Target::Begun(block), bytes)?;
+                .write_all(alloc, goods.path, Target::Begun(block, at), bytes)?;
             self.progress.add_bytes(self.host, alloc, bytes.len());
             if to < piece.len() {
                 break;
             }
+            at = at.saturating_add(bytes.len() as u64);
             from = 0;
             to = match read_piece(self.host, incoming, piece) {
                 Ok(count) => count,
@@ -209,7 +210,30 @@ impl<'a, H: Host, S: FlushStore + Drop> Arriving<'a, H, S> {
         Ok(())
     }
 
-    /// Puts a file of which the first piece was read, and that may have more. Its name comes behind all its bytes.
+    /// Writes all bytes of an inode that was begun with the first ones, and gives it its name.
+    fn finish<I: Incoming<H>>(
+        &mut self,
+        goods: Goods,
+        block: u32,
+        incoming: &mut I,
+        piece: &mut [u8],
+        first: usize,
+    ) -> Result<u32, Fault> {
+        if is_sparse(goods.attributes) {
+            write_parts(self, goods, block, incoming, piece, first)?;
+        } else {
+            self.write_rest(goods, block, incoming, piece, first)?;
+        }
+        let commit = Commit {
+            block,
+            directory: goods.place.folder,
+            name: goods.place.name,
+            replace: true,
+        };
+        self.volume.make_name(self.alloc, goods.path, &commit)
+    }
+
+    /// Puts a file of which the first piece was read, and that may have more. Its name comes behind all its bytes; holes stay where there are many.
     fn put_long<I: Incoming<H>>(
         &mut self,
         goods: Goods,
@@ -219,25 +243,14 @@ impl<'a, H: Host, S: FlushStore + Drop> Arriving<'a, H, S> {
     ) -> Result<u32, Fault> {
         let alloc = self.alloc;
         let attributes = self.new_attributes(goods.attributes);
-        let head_len = piece.len().min(HEAD);
+        let head_len = first.min(piece.len()).min(HEAD);
         let begin = Begin {
             kind: Kind::File,
             attributes,
             head: &piece[..head_len],
         };
         let block = self.volume.make(alloc, goods.path, &begin)?;
-        let done = match self.append_all(goods, block, incoming, piece, first) {
-            Ok(()) => {
-                let commit = Commit {
-                    block,
-                    directory: goods.place.folder,
-                    name: goods.place.name,
-                    replace: true,
-                };
-                self.volume.make_name(alloc, goods.path, &commit)
-            }
-            Err(fault) => Err(fault),
-        };
+        let done = self.finish(goods, block, incoming, piece, first);
         if done.is_err() {
             self.volume.give_up(alloc, block);
         }
@@ -257,7 +270,7 @@ impl<'a, H: Host, S: FlushStore + Drop> Arriving<'a, H, S> {
             Ok(count) => count,
             Err(error) => return Err(system(self.alloc, goods.source.as_bytes(), error)),
         };
-        let number = if count < piece.len() {
+        let number = if count < piece.len() && !is_sparse(goods.attributes) {
             self.progress.add_bytes(self.host, self.alloc, count);
             self.put_whole(goods, Kind::File, &piece[..count])?
         } else {

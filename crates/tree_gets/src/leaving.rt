@@ -1,9 +1,7 @@
 // One file or symbolic link of a volume that is brought out.
 
 use crate::filling::Outgoing;
-use crate::pieces::PIECE;
-use crate::progress::Progress;
-use host_trees::{Attributes, Host, Kind, Settings};
+use host_trees::{Attributes, Host, Kind, PIECE, Progress, Settings};
 use std::alloc::{AllocError, Global};
 use std::collections::BTreeMap;
 use std::io::ErrorKind;

@@ -1,11 +1,10 @@
 // The word `put`: files and folders of the system that are brought in.
 
 use crate::arriving::{Arriving, Goods, room_for_piece};
-use crate::naming::own_name;
 use crate::pieces::{OpenFile, Stream};
 use crate::tree_in::{enter, enter_there, is_done, put_folder, put_regular};
 use flush_store::FlushStore;
-use host_trees::{Attributes, Host, Kind};
+use host_trees::{Attributes, Host, Kind, own_name};
 use std::alloc::Global;
 use std::io::Read;
 use tree_lines::{Fault, Goal, Node, Opened, Reason, at, below, find_to, system, there};

@@ -1,9 +1,11 @@
 // A folder of a volume with all below it is brought out.
 
 use crate::leaving::Leaving;
-use crate::naming::{SystemName, joined, system_name};
-use host_trees::{Host, Kind, Settings};
-use std::alloc::Global;
+use crate::naming::{SystemName, system_name};
+use host_trees::{Host, Kind, Settings, joined};
+use std::alloc::{AllocError, Global};
+use std::io;
+use std::io::ErrorKind;
 use system_files::WriteFault;
 use tree_lines::{
     Fault, Node, Reason, Step, View, Visit, Walk, at, at_bytes, not_written, shown, system,
@@ -18,23 +20,50 @@ struct Filled {
     settings: Option<Settings>,
 }
 
-/// What a name is called in a folder of the system. Where that is not the same it is told.
+/// What is told of a name that is no text.
+const ESCAPED: &str = "gets this name in the system, escaped";
+
+/// What is told of one where its folder has the name, too, that it would get.
+const NUMBERED: &str = "gets this name in the system, escaped and with a number behind it";
+
+/// An escaped name, and a number behind it where its folder has that name, too. No name has such an end where it is escaped. Answers whether there is a number.
+fn apart<V: View, H: Host>(
+    leaving: &Leaving<V, H>,
+    folder: u32,
+    name: String,
+) -> Result<(String, bool), AllocError> {
+    if leaving.view.look_up(folder, name.as_bytes()).is_err() {
+        return Ok((name, false));
+    }
+    for number in 1..u32::MAX {
+        let numbered = format!(in leaving.alloc; "{name}\\{number}")?;
+        if leaving.view.look_up(folder, numbered.as_bytes()).is_err() {
+            return Ok((numbered, true));
+        }
+    }
+    Ok((name, false))
+}
+
+/// What a name is called in a folder of the system. Where that is not the same it is told. Names of one folder get names of their own.
 pub fn told_name<V: View, H: Host>(
     leaving: &mut Leaving<V, H>,
     path: &[u8],
-    name: &[u8],
+    (folder, name): (Option<u32>, &[u8]),
 ) -> Result<String, Fault> {
     let alloc = leaving.alloc;
-    match system_name(alloc, name)? {
-        SystemName::Same(name) => Ok(name),
-        SystemName::Escaped(name) => {
-            let word = shown(alloc, path)?;
-            let wanted = "gets this name in the system, escaped";
-            leaving.told.tell(Fault::Word { word, wanted })?;
-            Ok(name)
-        }
-        SystemName::Bad => Err(at_bytes(alloc, path, Reason::BadName)),
-    }
+    let name = match system_name(alloc, name)? {
+        SystemName::Same(name) => return Ok(name),
+        SystemName::Escaped(name) => name,
+        SystemName::Bad => return Err(at_bytes(alloc, path, Reason::BadName)),
+    };
+    let (name, is_numbered) = match folder {
+        Some(folder) => apart(leaving, folder, name)?,
+        None => (name, false),
+    };
+    let word = shown(alloc, path)?;
+    let wanted = if is_numbered { NUMBERED } else { ESCAPED };
+    leaving.told.tell(Fault::Word { word, wanted })?;
+    Ok(name)
 }
 
 /// Makes a folder of the system where none is. It has the permissions that the system gives, unless others are set once it is full: then nobody but its owner
@@ -86,7 +115,7 @@ fn bring_step<V: View, H: Host>(
     path: &[u8],
     step: &Step,
 ) -> Result<Option<Filled>, Fault> {
-    let name = told_name(leaving, path, &step.name)?;
+    let name = told_name(leaving, path, (Some(step.folder), &step.name))?;
     let target = joined(leaving.alloc, folder, name.as_str())?;
     match step.node.kind {
         NodeKind::File => leaving.bring_file_below(&step.node, path, target.as_str())?,
@@ -196,14 +225,37 @@ pub fn fill_folder<V: View, H: Host>(
     Ok(())
 }
 
+/// Makes a folder of the system, which nobody but its owner may enter yet, and those above it with the permissions that the system gives.
+fn make_own<H: Host>(host: &H, target: &str) -> io::Result<()> {
+    let path = target.trim_end_matches('/');
+    if let Some((above, _)) = path.rsplit_once('/')
+        && !above.is_empty()
+        && host.attributes_through(above).is_err()
+    {
+        host.make_folders(above)?;
+    }
+    match host.make_folder(path) {
+        // As of one that is named with a dot at its end.
+        Err(error) if error.kind() == ErrorKind::AlreadyExists => host.make_folders(path),
+        made => made,
+    }
+}
+
 /// Makes a folder of the system, with those above it, where none is, and answers whether it was made. A link to one may be there.
-pub fn make_target<H: Host>(host: &H, alloc: Global, target: &str) -> Result<bool, Fault> {
+pub fn make_target<V: View, H: Host>(leaving: &Leaving<V, H>, target: &str) -> Result<bool, Fault> {
+    let (host, alloc) = (leaving.host, leaving.alloc);
     match host.attributes_through(target) {
-        Ok(there) if there.kind == Kind::Folder => Ok(false),
-        Ok(_) => Err(at(alloc, target, Reason::NoFolder)),
-        Err(_) => match host.make_folders(target) {
-            Ok(()) => Ok(true),
-            Err(error) => Err(system(alloc, target.as_bytes(), error)),
-        },
+        Ok(there) if there.kind == Kind::Folder => return Ok(false),
+        Ok(_) => return Err(at(alloc, target, Reason::NoFolder)),
+        Err(_) => {}
+    }
+    let made = if leaving.keeps_attributes {
+        make_own(host, target)
+    } else {
+        host.make_folders(target)
+    };
+    match made {
+        Ok(()) => Ok(true),
+        Err(error) => Err(system(alloc, target.as_bytes(), error)),
     }
 }

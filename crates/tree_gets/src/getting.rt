@@ -1,9 +1,8 @@
 // The word `get`: files and folders of a volume that are brought out.
 
 use crate::leaving::Leaving;
-use crate::naming::joined;
 use crate::tree_out::{fill_folder, make_folder, make_target, told_name};
-use host_trees::{Filler, Host, Kind, PlainSink};
+use host_trees::{Filler, Host, Kind, PlainSink, joined};
 use std::alloc::Global;
 use std::io::Write;
 use system_files::Links;
@@ -58,7 +57,7 @@ fn bring_into<V: View, H: Host>(
             _ => Err(at(leaving.alloc, path, Reason::NoOwnName)),
         };
     }
-    let name = told_name(leaving, path.as_bytes(), name)?;
+    let name = told_name(leaving, path.as_bytes(), (None, name))?;
     let target = joined(leaving.alloc, target, name.as_str())?;
     match node.kind {
         NodeKind::Directory => {
@@ -76,7 +75,7 @@ fn bring_to<V: View, H: Host>(
     target: &str,
 ) -> Result<(), Fault> {
     if node.is_folder() {
-        let is_made = make_target(leaving.host, leaving.alloc, target)?;
+        let is_made = make_target(leaving, target)?;
         return fill_folder(leaving, path.as_bytes(), node, target, is_made);
     }
     match leaving.host.attributes_through(target) {

@@ -1,7 +1,6 @@
 // Bytes of a volume that are written to a file of the system.
 
-use crate::progress::Progress;
-use host_trees::{Filler, Host, Sink};
+use host_trees::{Filler, Host, Progress, Sink};
 use std::alloc::Global;
 use std::io;
 use std::io::ErrorKind;

@@ -1,6 +1,6 @@
 // What is told of files that are under way, on a terminal alone.
 
-use host_trees::Host;
+use crate::host::Host;
 use std::alloc::{AllocError, Global};
 
 /// Nothing is told before so many milliseconds.
