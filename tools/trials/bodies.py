@@ -31,9 +31,10 @@ class Body:
 
 LOCKING, REAL, TAKING, REPLACING = (f"crates/system_files/src/{it}.rt" for it in ("locking", "real", "taking", "replacing"))
 LINES, MAIN = "crates/xnsim/src/files.rt", "crates/xnsim/src/main.rt"
-XNFS_LINE, TREE_LINES, TREE_LOOKS, TREE_CHANGES, TREE_TRANSFERS = (
-    f"crates/{it}/src/" for it in ("xnfs_line", "tree_lines", "tree_looks", "tree_changes", "tree_transfers")
+XNFS_LINE, TREE_LINES, TREE_LOOKS, TREE_CHANGES, TREE_PUTS, TREE_GETS = (
+    f"crates/{it}/src/" for it in ("xnfs_line", "tree_lines", "tree_looks", "tree_changes", "tree_puts", "tree_gets")
 )
+WRITING = "crates/host_trees/src/writing.rt"
 FOUND_BLOCK, OPENING, SHARED_FILE = (f"crates/file_disk/src/{it}.rt" for it in ("found_block", "opening", "shared_file"))
 BODIES = {
     "no_create_new": Body(
@@ -274,37 +275,37 @@ BODIES = {
         ["names_are_printed_without_control_bytes"],
     ),
     "names_that_lead_elsewhere_brought_out": Body(
-        TREE_TRANSFERS + "naming.rt", ["xnfs"],
+        TREE_GETS + "naming.rt", ["xnfs"],
         "        || name.contains(&b'/')\n",
         "",
         ["get_stays_within_its_target"],
     ),
     "not_closed_after_a_fault": Body(
         XNFS_LINE + "lines.rt", ["xnfs"],
-        "    if opened.is_broken() {\n        return done;\n    }\n",
-        "    if opened.is_broken() || !matches!(&done, Ok(0)) {\n        return done;\n    }\n",
+        "    if opened.is_broken() {\n        return match done {\n            Ok(_) =>",
+        "    if opened.is_broken() || !matches!(&done, Ok(0)) {\n        return match done {\n            Ok(_) =>",
         ["a_lazy_shell_writes_at_each_early_end"],
     ),
     "lines_of_a_shell_not_synced": Body(
         XNFS_LINE + "shell.rt", ["xnfs"],
-        "    if shell.is_lazy || opened.is_broken() || crate::looking::is_looking(word) {\n",
-        "    if shell.is_lazy || opened.is_broken() || !matches!(word, Word::Sync) {\n",
+        "    if shell.is_lazy || crate::looking::is_looking(word) {\n",
+        "    if shell.is_lazy || !matches!(word, Word::Sync) {\n",
         ["a_line_of_a_shell_is_on_the_disk_once_it_has_answered"],
     ),
     "links_below_a_source_followed": Body(
-        TREE_TRANSFERS + "tree_in.rt", ["xnfs"],
+        TREE_PUTS + "tree_in.rt", ["xnfs"],
         "arriving.host.attributes(source.as_str())",
         "arriving.host.attributes_through(source.as_str())",
         ["put_of_a_folder_follows_no_link"],
     ),
     "files_below_a_target_followed": Body(
-        TREE_TRANSFERS + "leaving.rt", ["xnfs"],
+        TREE_GETS + "leaving.rt", ["xnfs"],
         "            _ => self.bring_file(node, path, target, Links::Refused),",
         "            _ => self.bring_file(node, path, target, Links::Followed),",
         ["get_of_a_folder_replaces_no_file_that_a_link_leads_to"],
     ),
     "folders_below_a_target_followed": Body(
-        TREE_TRANSFERS + "tree_out.rt", ["xnfs"],
+        TREE_GETS + "tree_out.rt", ["xnfs"],
         "            Kind::SymbolicLink => Err(not_written(alloc, target.as_bytes(), WriteFault::Link)),\n            Kind::File | Kind::Other",
         "            Kind::SymbolicLink if target.is_empty() => Err(not_written(alloc, target.as_bytes(), WriteFault::Link)),\n"
         "            Kind::SymbolicLink => Ok(()),\n            Kind::File | Kind::Other",
@@ -317,19 +318,99 @@ BODIES = {
         ["a_top_folder_that_is_none_is_told"],
     ),
     "attributes_not_set": Body(
-        TREE_TRANSFERS + "leaving.rt", ["xnfs"],
+        TREE_GETS + "leaving.rt", ["xnfs"],
         "        if self.keeps_attributes {\n",
         "        if self.keeps_attributes && node.is_folder() {\n",
         ["get_gives_a_file_the_mode_and_the_time_that_it_has_in_the_volume"],
     ),
     "copy_with_holes_named_first": Body(
-        TREE_CHANGES + "sparse.rt", ["xnfs"],
-        "    copy_stretches(opened, alloc, copied, number, piece)?;\n    move_to_place(opened, alloc, copied, name)\n",
-        "    move_to_place(opened, alloc, copied, name)?;\n    copy_stretches(opened, alloc, copied, number, piece)\n",
+        TREE_CHANGES + "copies.rt", ["xnfs"],
+        "    copy_rest(opened, alloc, copied, block, piece)?;\n    let commit = Commit {\n        block,\n        directory: copied.place.folder,\n"
+        "        name: copied.place.name,\n        replace: true,\n    };\n    opened.make_name(alloc, copied.to, &commit)\n",
+        "    let commit = Commit {\n        block,\n        directory: copied.place.folder,\n        name: copied.place.name,\n        replace: true,\n    };\n"
+        "    let number = opened.make_name(alloc, copied.to, &commit)?;\n    copy_rest(opened, alloc, copied, block, piece)?;\n    Ok(number)\n",
         ["a_copy_with_holes_has_its_name_once_it_is_whole"],
     ),
+    "got_file_made_for_all": Body(
+        WRITING, ["xnfs"],
+        "let mode = if self.settings.is_some() { OWN } else { ANY };",
+        "let mode = if self.settings.is_some() { ANY } else { OWN };",
+        ["what_get_makes_is_secret_until_it_has_its_mode"],
+    ),
+    "got_file_keeps_the_old_mode_first": Body(
+        WRITING, ["xnfs"],
+        "        if self.settings.is_some() {\n            return Ok(());\n        }\n",
+        "",
+        ["what_get_writes_never_has_the_mode_of_the_file_that_it_replaces"],
+    ),
+    "top_folder_made_for_all": Body(
+        TREE_GETS + "tree_out.rt", ["xnfs"],
+        "        make_own(host, target)\n",
+        "        make_own(host, target).and_then(|()| host.make_folders(target))\n",
+        ["a_folder_that_get_makes_is_secret_until_it_is_full"],
+    ),
+    "moved_onto_what_was_moved": Body(
+        TREE_CHANGES + "moving.rt", ["xnfs"],
+        "if is_taken && given.contains(place.name) {",
+        "if is_taken && given.contains(place.name) && place.has_slash {",
+        ["two_files_of_one_name_are_both_kept"],
+    ),
+    "names_shown_alike_are_one": Body(
+        TREE_GETS + "tree_out.rt", ["xnfs"],
+        "    if leaving.view.look_up(folder, name.as_bytes()).is_err() {\n",
+        "    if leaving.view.look_up(folder, name.as_bytes()).is_err() || !name.is_empty() {\n",
+        ["two_names_that_are_brought_out_as_one_are_both_kept"],
+    ),
+    "first_number_taken": Body(
+        TREE_GETS + "tree_out.rt", ["xnfs"],
+        "        if leaving.view.look_up(folder, numbered.as_bytes()).is_err() {\n",
+        "        if number == 1 || leaving.view.look_up(folder, numbered.as_bytes()).is_err() {\n",
+        ["two_names_that_are_brought_out_as_one_are_both_kept"],
+    ),
+    "any_size_is_sound": Body(
+        "crates/treefs_check/src/inodes.rt", ["xnfs"],
+        "    if numbered.inode.fields.size > GREATEST_SIZE {\n",
+        "    if numbered.inode.fields.size > GREATEST_SIZE && numbered.number == 1 {\n",
+        ["sizes_up_to_the_greatest_are_good", "a_volume_that_is_damaged_is_told"],
+    ),
+    "greatest_size_is_damage": Body(
+        "crates/treefs_check/src/inodes.rt", ["xnfs"],
+        "    if numbered.inode.fields.size > GREATEST_SIZE {\n",
+        "    if numbered.inode.fields.size >= GREATEST_SIZE {\n",
+        ["sizes_up_to_the_greatest_are_good"],
+    ),
+    "closed_volume_not_mended": Body(
+        XNFS_LINE + "lines.rt", ["xnfs"],
+        "is_wrong && is_closed));",
+        "is_wrong && !is_closed));",
+        ["check_repairs_what_it_tells_to_be_mended"],
+    ),
+    "unnamed_freed_of_a_closed_volume": Body(
+        TREE_LOOKS + "repairing.rt", ["xnfs"],
+        "    if is_closed || found.iter().any(|finding| finding.is_damage()) {\n",
+        "    if found.iter().any(|finding| finding.is_damage()) {\n",
+        ["repair_frees_nothing_that_no_crash_left"],
+    ),
+    "unnamed_freed_of_a_damaged_volume": Body(
+        TREE_LOOKS + "repairing.rt", ["xnfs"],
+        "    if is_closed || found.iter().any(|finding| finding.is_damage()) {\n",
+        "    if is_closed {\n",
+        ["repair_frees_nothing_that_no_crash_left"],
+    ),
+    "unnamed_never_freed": Body(
+        TREE_LOOKS + "repairing.rt", ["xnfs"],
+        "    if is_closed || found.iter().any(|finding| finding.is_damage()) {\n",
+        "    if is_closed || found.iter().any(|finding| finding.is_damage() || !is_json) {\n",
+        ["repair_frees_what_a_crash_left_without_a_name"],
+    ),
+    "damage_that_stays_mended_in_part": Body(
+        TREE_LOOKS + "repairing.rt", ["xnfs"],
+        "        Finding::NoTop | Finding::NotFound(_) | Finding::TooLong(_)\n",
+        "        Finding::NoTop | Finding::NotFound(_)\n",
+        ["damage_that_stays_is_not_mended_in_part"],
+    ),
     "disk_put_into_itself": Body(
-        TREE_TRANSFERS + "tree_in.rt", ["xnfs"],
+        TREE_PUTS + "tree_in.rt", ["xnfs"],
         "        && disk.is_same(goods.attributes)\n",
         "        && disk.is_same(goods.attributes)\n        && disk.size == 0\n",
         ["the_disk_is_not_put_into_itself"],

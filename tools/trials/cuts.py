@@ -2,15 +2,16 @@
 
 Each of RUNS runs (20) is a random line or a random shell, also a lazy one, on a disk that the runs before it have filled; `strace` records its
 writes and syncs, and what it prints. At each point of that record images are built with none, all and SUBSETS (30) random subsets of the writes since
-the last good sync kept. Each has to be sound by `xnsim check`. Once it was opened to be changed, `check` has to find nothing, and each file has to be whole: of
-the lines that have answered all is there, of a lazy shell up to its last `sync` that has; what the next line does may be there or not, name by name. After the
-last point, with status 0, all has to be there. Of one image in forty the opening that mends it is recorded too, and images are built of a crash in that. On one
-image in ten the words that look are tried before it is mended: they have to end well and to leave it as
-it is. A fresh disk is made for every ten runs; every second one is crowded: it has more inodes than inode 0 has pointers of its own, and most of its runs are
-lazy shells. The last word is the SEED (2). A line on standard error tells each run.
+the last good sync kept. Each has to be sound by `xnsim check`. Once `check --repair` or `sync` opened it, `check` has to find nothing, and each file has to
+be whole: of the lines that have answered all is there, of a lazy shell up to its last `sync` that has; what the next line does may be there or not, name by
+name. After the last point, with status 0, all has to be there. Of one image in forty the opening that mends it is recorded too, and images are built of a
+crash in that. On one image in ten the words that look are tried before it is mended: they have to end well and to leave it as it is. A fresh disk is made for
+every ten runs; every second one is crowded: it has more inodes than inode 0 has pointers of its own, and most of its runs are lazy shells. The last word is
+the SEED (2). A line on standard error tells each run.
 """
 
 import collections
+import hashlib
 import os
 import random
 import re
@@ -33,7 +34,10 @@ LONGEST = 200_000
 
 
 def bytes_of(text, count):
-    return bytes.fromhex(text.replace("\\x", ""))[:count]
+    data = bytes.fromhex(text.replace("\\x", ""))[:count]
+    if len(data) != count:
+        raise RuntimeError(f"a write of {count} bytes was recorded with {len(data)} of them")
+    return data
 
 
 def recorded(folder, image, words, given=b""):
@@ -62,12 +66,13 @@ def with_writes(image, writes):
 
 
 def subsets(writes, count, rng):
-    """None of some writes, all of them, and so many random subsets."""
+    """None of some writes, all of them, and so many random subsets: few, half or most of them all, or of the first ones."""
     yield []
     if writes:
         yield writes
         for _ in range(count if len(writes) > 1 else 0):
-            yield [write for write in writes if rng.random() < 0.5]
+            first, odds = rng.choice([len(writes), rng.randrange(1, len(writes) + 1)]), rng.choice([0.1, 0.5, 0.5, 0.9, 0.98])
+            yield [write for write in writes[:first] if rng.random() < odds]
 
 
 def cuts_of(image, events, count, rng):
@@ -89,7 +94,7 @@ class Cuts:
 
     def look(self, image, answered, is_after):
         """Looks at an image after so many lines have answered, or after all is done."""
-        key = (image, answered, is_after)
+        key = (hashlib.sha256(image).digest(), answered, is_after)
         if key in self.seen:
             return
         self.seen.add(key)
@@ -110,7 +115,7 @@ class Cuts:
             self.tally.count("looked at")
             if not is_looked_at(self.folder, "cut"):
                 self.fault(image, ["not looked at well"], answered)
-        if told := self.trial.odd(mended(self.folder, "cut", ["sync"]), None if is_after else answered):
+        if told := self.trial.odd(mended(self.folder, "cut", self.rng.choice([["check", "--repair"], ["sync"]])), None if is_after else answered):
             self.fault(image, told, answered)
 
     def fault(self, image, told, answered):
@@ -118,14 +123,15 @@ class Cuts:
         write("/", kept, image)
         self.tally.fault(*told[:3], f"(kept as {kept})", self.trial.words, self.trial.lines, "answered", answered)
 
-    def take(self, image, events, count):
-        """Looks at all cuts of a record."""
+    def take(self, image, events, count, share=1):
+        """Looks at the cuts of a record at all its points, or at a random share of them and at its end."""
         open_writes, printed = [], b""
         for event in [*events, "end"]:
             if isinstance(event, bytes):
                 printed += event
                 continue
-            for kept in subsets(open_writes, count, self.rng):
+            is_looked_at = share == 1 or event == "end" or self.rng.random() < share
+            for kept in subsets(open_writes, count, self.rng) if is_looked_at else ():
                 self.look(with_writes(image, kept), answered_by(printed) if self.trial.is_shell() else 0, event == "end")
             if event is None:
                 image, open_writes = with_writes(image, open_writes), []

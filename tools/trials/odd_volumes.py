@@ -6,8 +6,9 @@ other), names twice, pointers taken away, set twice or to free blocks, targets o
 of the first file system that is made by hand, with things wrong or rare in it. On each the words are played, with limits of time and memory. Looking words
 change no byte of the disk and no file outside of the target. No word ends by a signal or later than it may; nothing but 0 and 1 is ever a status, and 1 is
 told; what is printed is text without control bytes, and JSON where that is asked for; the store's check finds a disk that was sound sound after each word. A
-volume of the first file system is not changed. It is counted on how many disks that `check` finds damaged a word that changes something is done, and after
-how many of these `get` brings out less than before.
+volume of the first file system is not changed, and by no word but `check --repair` one that `check` finds damaged. It is counted how many of these that mends,
+and after how many `get` brings out less than before. Of a copy of each disk that is sound for the store `check --repair` has to leave each byte as it is, with
+status 1, or to mend all, so that `check` and a second repair find nothing; and where the volume was closed or is damaged it frees no inode.
 """
 
 import collections
@@ -44,6 +45,8 @@ CHANGES = [
     ["chmod", "-R", "u+x", "/"], ["chown", "-R", "1:1", "/"], ["touch", "/a", "/t"], ["truncate", "-s", "100000", "/a/one"], ["truncate", "-s", "0", "/big"],
     ["check", "--repair"], ["sync"],
 ]
+# How `check --repair` may end on a disk that is sound for the store.
+REPAIRS = NOTHING, MENDED, REFUSED = "with nothing to repair", "repaired", "repairs refused"
 SHELL = b"ls\nmkdir /m\nput source3000a /m/s\nmv /m/s /s\nrm /s\nrmdir /m\ncd /a\nls -l\ncp -r . /copy\nrm -r /copy\ntree\n"
 BASES = [
     b"put folder /a\nput source8193a /b\nln -s a/one /l\nln /a/one /a/other\nput holes /h\nput source75000a /big\nmkdir /empty\n",
@@ -57,7 +60,8 @@ class Trials:
 
     def __init__(self, folder, rng):
         self.folder, self.rng = folder, rng
-        self.tally, self.kinds = Tally("images", "sound for the store", "sound", "runs", "changed though damaged", "less afterwards"), collections.Counter()
+        self.tally = Tally("images", "sound for the store", "sound", "runs", "changed though damaged", "less afterwards", *REPAIRS)
+        self.kinds = collections.Counter()
         write_sources(folder)
         self.bases = [self.base(lines) for lines in BASES]
         self.first = self.first_volume()
@@ -165,6 +169,25 @@ class Trials:
             self.fault(words, "leaves a disk that is not sound", image)
         return status, after
 
+    def try_repair(self, image):
+        """Repairs the disk, which is as it was then again."""
+        told = json.loads(self.play(["d.img", "check", "--json"])[1] or b"null")
+        volume = tree_volumes.TreeVolume(image, self.rng)
+        has_to_stay = told is None or told["damage"] or image[512 * volume.root + tree_volumes.CONTENT + 24] == 1
+        status, after = self.try_words(["check", "--repair"], image, True)
+        if status == 0:
+            self.tally.count(NOTHING if told["is_sound"] and not told["left_by_a_crash"] else MENDED)
+            freed = set(volume.inodes) - set(tree_volumes.TreeVolume(after, self.rng).inodes) if has_to_stay else []
+            found = self.play(["d.img", "check"])
+            again = self.play(["d.img", "check", "--repair"])
+            if freed or found[0] != 0 or found[1].count(b"\n") != 1 or again != found:
+                self.fault(["check", "--repair"], f"frees {sorted(freed)}, and then {found}, {again}", image)
+        else:
+            self.tally.count(REFUSED)
+            if after != image:
+                self.fault(["check", "--repair"], "is refused, and changes the disk", image)
+        write(self.folder, "d.img", image)
+
     def room(self):
         """An empty folder to bring files out."""
         shutil.rmtree(os.path.join(self.folder, "room"), ignore_errors=True)
@@ -182,6 +205,8 @@ class Trials:
         self.tally.count("sound for the store", is_sound(self.folder, "d.img"))
         is_good = self.play(["d.img", "check"])[0] == 0
         self.tally.count("sound", is_good)
+        if not is_first and is_sound(self.folder, "d.img"):
+            self.try_repair(image)
         for words in self.rng.sample(LOOKS, 8):
             self.room()
             _, image = self.try_words(words, image, False)
@@ -189,7 +214,10 @@ class Trials:
                 self.fault(words, "writes outside of its target", image)
         before = self.got()
         for words in [["check", "--repair"], *self.rng.sample(CHANGES, 4)][self.rng.randrange(2) :]:
+            was = image
             status, image = self.try_words(words, image, not is_first)
+            if not is_good and words != ["check", "--repair"] and (status == 0 or image != was):
+                self.fault(words, f"status {status}: is done, or changes the disk, though check tells damage", was)
             if not is_good and status == 0:
                 self.tally.count("changed though damaged")
                 self.tally.count("less afterwards", words[0] in ("check", "sync", "mkdir", "touch", "chmod", "chown") and self.got() < before)

@@ -13,7 +13,10 @@ from made_from import program_to_try
 
 # A run that takes more seconds is wrong.
 PATIENCE = 60
-PACKAGES = {"bash": "bash", "cc": "gcc", "mount": "mount", "prlimit": "util-linux", "setpriv": "util-linux", "strace": "strace", "timeout": "coreutils"}
+PACKAGES = {
+    "bash": "bash", "cc": "gcc", "diff": "diffutils", "git": "git", "mount": "mount", "prlimit": "util-linux", "setpriv": "util-linux", "strace": "strace",
+    "tar": "tar", "timeout": "coreutils",
+}
 
 
 @functools.lru_cache(maxsize=None)

@@ -175,7 +175,8 @@ class Tree:
                 place = self.goal("folder", path)
                 return place is not None and self.put_folder(place)
             case ["put", "-", path]:
-                return self.put_file(self.goal("-", path), ("file", given, 0o644)) is not None and self.kind(path) != "folder"
+                mode = self.things[self.at(path)][2] if self.kind(path) == "file" else 0o644
+                return self.put_file(self.goal("-", path), ("file", given, mode)) is not None and self.kind(path) != "folder"
             case ["put", source, path]:
                 return self.put_file(self.goal(source, path), ("file", {**SOURCES, **HOLES}[source], 0o644)) is not None
             case ["mkdir", "-p", path]:

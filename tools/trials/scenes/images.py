@@ -10,6 +10,8 @@ from trials.tree_volumes import BLOCK, CONTENT, FILE, FOLDER, LINKS, SIZE, TreeV
 
 # The numbers of the file and of the folder that `volume` puts.
 GOOD, INSIDE = 2, 3
+# No file is longer.
+GREATEST = 134_251_159_552
 
 
 def volume():
@@ -67,12 +69,13 @@ def names_that_are_no_text_are_shown_and_brought_out_escaped():
 @scene
 def two_names_that_are_brought_out_as_one_are_both_kept():
     fresh()
-    for name, data in (("\x1b", b"one"), ("\\x1b", b"two")):
+    for name, data in (("\x1b", b"escaped"), ("\\x1b", b"alike"), ("\\x1b\\1", b"numbered")):
         write(name, data)
         run(XNFS, "d.img", "put", name, "/", status=0)
-    run(XNFS, "d.img", "get", "/", "out")
-    got = sorted(read(os.path.join("out", name)) for name in os.listdir("out"))
-    want(got == [b"one", b"two"], f"get of a folder with a name that is escaped and one that reads like that makes {got}")
+    told = run(XNFS, "d.img", "get", "/", "out", status=1).stderr
+    got = {name: read(os.path.join("out", name)) for name in os.listdir("out")}
+    wanted = {"\\x1b\\2": b"escaped", "\\x1b": b"alike", "\\x1b\\1": b"numbered"}
+    want(got == wanted and told.count(b"\n") == 1, f"get of a folder with a name that is escaped and two that read like that makes {got}, and tells {told!r}")
 
 
 def leads_to_nothing(made):
@@ -125,6 +128,19 @@ def a_volume_that_is_damaged_is_told():
 
 
 @scene
+def sizes_up_to_the_greatest_are_good():
+    for size, is_good in ((GREATEST, True), (GREATEST + 1, False), (2**63, False), (2**64 - 1, False)):
+        made = volume()
+        made.field(GOOD, "<Q", SIZE, size)
+        write("d.img", made.image)
+        told = run(XNFS, "d.img", "check")
+        want((told.returncode == 0) == is_good, f"check of a file of {size} bytes: status {told.returncode}, {told.stdout[:100]!r}")
+        repaired = run(XNFS, "d.img", "check", "--repair")
+        want((repaired.returncode == 0) == is_good, f"check --repair of a file of {size} bytes: status {repaired.returncode}, {repaired.stdout[:100]!r}")
+        want(is_good or read("d.img") == made.image, f"a volume with a file of {size} bytes was changed, though that can't be mended")
+
+
+@scene
 def a_volume_that_is_damaged_is_not_changed_silently():
     for make in (leads_to_nothing, twice, fewer_links_than_names, of_mode_zero):
         for clean in (0, 1):
@@ -146,6 +162,55 @@ def check_repairs_what_it_tells_to_be_mended():
         told = run(XNFS, "d.img", "check")
         is_whole = told.returncode == 0 and b"left" not in told.stdout
         want(is_whole, f"check --repair of a volume with {make.__name__}, which was closed, leaves: {told.stdout[:150]!r}")
+
+
+def without_a_name(made, is_closed):
+    """Takes the name of the file away, so that its inode has none."""
+    at = next(it for it in made.records(1) if made.word(it) == GOOD)
+    behind = at + 5 + made.image[at + 4]
+    end = BLOCK * made.inodes[1] + BLOCK
+    made.image[at:end] = made.image[behind:end].ljust(end - at, b"\0")
+    made.image[BLOCK * made.root + CONTENT + 24] = is_closed
+
+
+@scene
+def repair_frees_nothing_that_no_crash_left():
+    """An inode without a name of a volume that was closed, or that is damaged besides, may be what a lost name led to."""
+    for is_closed, make in ((1, None), (1, leads_to_nothing), (0, leads_to_nothing)):
+        made = volume()
+        without_a_name(made, is_closed)
+        if make:
+            make(made)
+        write("d.img", made.image)
+        run(XNSIM, "check", "d.img", status=0)
+        done = run(XNFS, "d.img", "check", "--repair", status=1)
+        what = f"check --repair of a volume that was {'closed' if is_closed else 'left by a crash'}, with an inode without a name{' and damage' * bool(make)}"
+        want(read("d.img") == made.image, f"{what} changes it: {done.stdout!r}")
+        want(done.stderr.count(b"\n") == 1, f"{what} tells {done.stderr!r}")
+
+
+@scene
+def damage_that_stays_is_not_mended_in_part():
+    """Where one thing can't be mended a repair leaves also what could be."""
+    for is_closed in (0, 1):
+        made = volume()
+        longer_than_any(made)
+        leads_to_nothing(made)
+        made.image[BLOCK * made.root + CONTENT + 24] = is_closed
+        write("d.img", made.image)
+        run(XNSIM, "check", "d.img", status=0)
+        done = run(XNFS, "d.img", "check", "--repair", status=1)
+        want(read("d.img") == made.image, f"check --repair of a volume with a size past the greatest mends other damage: {done.stdout!r}")
+
+
+@scene
+def repair_frees_what_a_crash_left_without_a_name():
+    made = volume()
+    without_a_name(made, 0)
+    write("d.img", made.image)
+    run(XNFS, "d.img", "check", "--repair", status=0)
+    told = run(XNFS, "d.img", "check", status=0).stdout
+    want(told.startswith(b"sound: 0 files, 1 folders"), f"check after the repair tells {told!r}")
 
 
 @scene

@@ -3,6 +3,7 @@
 import os
 import pwd
 import shutil
+import stat
 
 from trials.scenes.room import XNFS, fresh, read, run, scene, want, write
 
@@ -68,6 +69,34 @@ def what_get_makes_is_secret_until_it_has_its_mode():
 
 
 @scene
+def what_get_writes_never_has_the_mode_of_the_file_that_it_replaces():
+    fresh(a=b"secret")
+    run(XNFS, "d.img", "chmod", "600", "/a", status=0)
+    write("t", b"old")
+    os.chmod("t", 0o644)
+    told = run("strace", "-f", "-e", "trace=openat,chmod,fchmod,fchmodat,rename", XNFS, "d.img", "get", "/a", "t", status=0).stderr.decode().splitlines()
+    first = next(place for place, it in enumerate(told) if "O_EXCL" in it)
+    modes = [it for it in told[first:] if "chmod" in it or "O_EXCL" in it]
+    want(all(", 0600" in it for it in modes), f"a file that is to have mode 600 in the place of one of mode 644: {modes}")
+    want(stat.S_IMODE(os.stat("t").st_mode) == 0o600, f"mode {os.stat('t').st_mode:o}")
+
+
+@scene
+def a_folder_that_get_makes_is_secret_until_it_is_full():
+    fresh()
+    write("source", b"bytes")
+    lines = b"mkdir /top\nmkdir /top/below\nput source /top/below/f\nchmod 2755 /top/below\nchmod 1751 /top\ntouch -d 1000000000 /top/below /top\n"
+    run(XNFS, "d.img", "shell", stdin=lines, status=0)
+    told = run("strace", "-f", "-e", "trace=mkdir,mkdirat,chmod,fchmod,fchmodat,openat", XNFS, "d.img", "get", "/top", "out", status=0).stderr.decode()
+    made = [it for it in told.splitlines() if "mkdir" in it]
+    want(len(made) == 2 and all(", 0700)" in it for it in made), f"others may enter a folder while it is filled: {made}")
+    last = told.rindex("O_EXCL")
+    want(last < told.index(", 02755)") < told.index(", 01751)"), "a folder has its mode before it is full")
+    seen = [(stat.S_IMODE(it.st_mode), it.st_mtime) for it in map(os.stat, ("out", "out/below"))]
+    want(seen == [(0o1751, 10**9), (0o2755, 10**9)], f"folders have other modes or times than in the volume: {seen}")
+
+
+@scene
 def files_with_several_names_are_brought_out_as_they_are():
     """A name that takes the place of one that the same line has brought out leads to its own bytes."""
     fresh()
@@ -107,7 +136,7 @@ def folders_put_over_each_other_keep_the_last_files():
     run(XNFS, "d.img", "mkdir", "/all", status=0)
     done = run(XNFS, "d.img", "put", "one/.", "two/.", "three/.", "/all")
     got = run(XNFS, "d.img", "cat", "/all/f").stdout
-    want(got == b"one" and done.returncode == 0, f"put of three folders over each other: status {done.returncode}, {done.stderr!r}, the file is that of {got!r}")
+    want(got == b"one" and done.returncode == 0, f"put of three folders over each other: status {done.returncode}, {done.stderr!r}, the file is {got!r}")
 
 
 def two_that_are_one():
