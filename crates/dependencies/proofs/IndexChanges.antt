@@ -1,7 +1,8 @@
 -- The index of lives, where these change.
-use Rattle.std.proofs.Common.{◌≡◌, ℕ, ◌<◌, ◌+◌, ◌-◌, true, false, cond, List, length, Option, Some, None, subst, sym}
-use Rattle.std.specs.Prelude.{Contains, IfSome, IsTrue, count_by, is_some, nat_lt, slice_get, slice_index, slice_set, ◌==◌}
-use Rattle.xn_model.specs.Lives.{BlockState, Lives, accepted_at, begun_at, drops_of, freed, is_for, life_at, settled_at}
+use Rattle.std.proofs.Common.{◌≡◌, ℕ, ◌<◌, ◌+◌, ◌-◌, true, false, cond, List, length, Option, Some, None, ap, subst, sym, ◌∙◌}
+use Rattle.std.proofs.lemmas.List.{set-get_or}
+use Rattle.std.specs.Prelude.{Contains, IfSome, IsTrue, count_by, is_some, nat_lt, option_map, slice_get, slice_index, slice_set, ◌==◌}
+use Rattle.xn_model.specs.Lives.{BlockState, Lives, accepted_at, begun_at, drops_of, freed, is_for, life_at, settle, settled_at}
 use Rattle.xn_model.specs.Calls.{first_pending, life_pending, new_life}
 use Rattle.dependencies.specs.Candidates.{CandidatesValue, Wakes, with_candidate}
 use Rattle.dependencies.specs.Counts.{counted_for, given, noted_for}
@@ -11,6 +12,7 @@ use Rattle.dependencies.specs.Pending.{pends}
 use Rattle.dependencies.proofs.Counting.{accepted_counted, accepted_noted, begun_counted, started_counted, started_noted}
 use Rattle.dependencies.proofs.DirtyChanges.{accepted_dirty, begun_dirty, forgotten_dirty, settled_dirty, started_dirty}
 use Rattle.dependencies.proofs.Ended.{forgotten_counted}
+use Rattle.dependencies.proofs.FirstEntries.{place_is}
 use Rattle.dependencies.proofs.Freed.{ended_counted, settled_none}
 use Rattle.dependencies.proofs.HomeChanges.{accepted_homes, begun_homes, forgotten_homes, settled_homes, started_homes}
 use Rattle.dependencies.proofs.LifeChanges.{accepted_accounts, begun_accounts, forgotten_accounts, settled_accounts, started_accounts}
@@ -96,6 +98,15 @@ settled_index lives index b k pending woken is may less wakes =
       candidates = settled_accounts lives index.candidates woken b k drops is.candidates wakes may.at_rest;
       homes = settled_homes lives index.homes b k drops is.homes;
     }
+
+-- a write of a free block changes nothing
+pub settled_free : (lives : Lives) (index : IndexValue) (b k : ℕ) → life_at lives b ≡ None → IsIndex lives index →
+    IsIndex (freed (settled_at lives b k) (drops_of (first_pending k (life_at lives b)))) index
+settled_free lives index b k free is =
+    let same : slice_set lives b None ≡ lives = ap (slice_set lives b) (sym free ∙ place_is lives b) ∙ set-get_or lives b None in
+    subst (λ o. IsIndex (freed (slice_set lives b (option_map (settle k) o)) (drops_of (first_pending k o))) index) (sym free) (
+      subst (λ (ls : Lives). IsIndex ls index) (sym same) is
+    )
 
 -- a life ends
 pub ended_index : (lives : Lives) (index : IndexValue) (b k : ℕ) (pending : List ℕ) (woken : CandidatesValue) → IsIndex lives index → k ≡ life_pending (life_at lives b) →

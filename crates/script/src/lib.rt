@@ -18,7 +18,6 @@ mod words;
 pub use bytes::print_bytes;
 pub use edit::parse_edit;
 pub use fault::ScriptFault;
-pub use hex::parse_start;
 pub use line::ScriptLine;
 pub use number::{parse_number, parse_numbers, parse_u32};
 pub use print::print_reply;

@@ -11,6 +11,7 @@ pub mod Finding
 pub mod FreshDisks
 pub mod Answering
 pub mod Writing
+pub mod Settling
 pub mod Slots
 pub mod Claiming
 pub mod Unclaimed

@@ -226,9 +226,7 @@ impl State {
         ensures state { GivesExactly (settled_of self.old block (unwrap_or (option_copied other.entry) (life_bytes (life_at self.old.lives block))))
             self.old self.new result }
     {
-        let count = self.lives.settled_unless(block, other)?;
-        let freed = self.lives.settle(block, count);
-        Ok((count, freed))
+        self.lives.settle_unless(block, other)
     }
 
     /// The newest bytes of a block in use.

@@ -1,6 +1,7 @@
 // What is read off an index and the lives that it is of.
 
-ghost use Rattle.std.specs.Prelude.{◌≡◌, ◌≤◌, Some, count_by, is_none, position, sum_by};
+ghost use Rattle.std.specs.Prelude.{◌≡◌, ◌≤◌, count_by, is_none, position, sum_by};
+ghost use Rattle.std.specs.Option.{option_copied};
 ghost use Rattle.xn_model.specs.Lives.{Lives, entries_of, least_to, life_at, lowest_free, prefix_of};
 ghost use Rattle.xn_model.specs.Calls.{is_ready, is_tainted, life_pending, pending_in};
 ghost use Rattle.dependencies.specs.Index.{IsIndex};
@@ -59,15 +60,19 @@ impl Index {
         least_for(cache, &self.dirty, fs, most, self.pending[fs.index()])
     }
 
-    /// How many pending entries of a block, of which this is the life, from the first on, are safe: they may go to the disk together.
+    /// How many pending entries of a block, of which this is the life, from the first on, are safe: they may go to the disk together. A free
+    /// block, which has no life, has none.
     #[inline(always)]
-    pub fn safe_prefix(&self, cache: &Cache, block: u32, life: &LiveBlock<'_>) -> u32
+    pub fn safe_prefix(&self, cache: &Cache, block: u32, life: Option<&LiveBlock<'_>>) -> u32
         requires index { IsIndex cache.now self.now }
         requires typed { FindsTypes cache.now }
-        requires life { life_at cache.now block ≡ Some life.now }
+        requires life { option_copied life ≡ life_at cache.now block }
         ensures count { result ≡ prefix_of cache.now (life_at cache.now block) }
         ensures within { result ≤ life_pending (life_at cache.now block) }
     {
+        let Some(life) = life else {
+            return 0;
+        };
         let pending = life.facts().pending;
         for place in 0..pending {
             let claim = life.claim(place);
@@ -86,7 +91,7 @@ impl Index {
     {
         match cache.live(block) {
             Some(life) => {
-                (self.safe_prefix(cache, block, &life) as usize) < life.facts().pending
+                (self.safe_prefix(cache, block, Some(&life)) as usize) < life.facts().pending
             }
             None => false,
         }

@@ -1,6 +1,7 @@
 // What follows in an index where lives change.
 
 ghost use Rattle.std.specs.Prelude.{◌≡◌, ◌<◌, ◌≤◌, ℕ, List, [], Some, None, IfSome, IsTrue, false, is_some, slice_get, slice_index, slice_set};
+ghost use Rattle.std.specs.Option.{option_copied};
 ghost use Rattle.xn_model.specs.Lives.{BlockState, Lives, accepted_at, begun_at, drops_of, freed, life_at, settled_at};
 ghost use Rattle.xn_model.specs.Calls.{first_pending, life_pending, new_life};
 ghost use Rattle.block_cache.specs.Systems.{system_of};
@@ -56,22 +57,29 @@ impl Index {
         self.candidates.trim(cache, &self.dirty, &self.homes);
     }
 
-    /// Takes out the first entries of a block, of which this is the life, which a write makes durable, and frees the blocks that they drop.
+    /// Takes out the first entries of a block, of which this is the life, which a write makes durable, and frees the blocks that they drop. A free
+    /// block, which has no life, has none.
     #[inline(always)]
     pub fn take_out(
         &mut self,
         cache: &Cache,
         block: u32,
-        life: &LiveBlock<'_>,
+        life: Option<&LiveBlock<'_>>,
         count: usize,
     ) -> TakenOut
         requires index { IsIndex cache.now self.old }
-        requires life { life_at cache.now block ≡ Some life.now }
+        requires life { option_copied life ≡ life_at cache.now block }
         requires within { count ≤ life_pending (life_at cache.now block) }
         ensures drops { result.has_drops ≡ false → drops_of (first_pending count (life_at cache.now block)) ≡ [] }
         ensures index { MayFree cache.now block (drops_of (first_pending count (life_at cache.now block))) →
             IsIndex (freed (settled_at cache.now block count) (drops_of (first_pending count (life_at cache.now block)))) self.new }
     {
+        let Some(life) = life else {
+            return TakenOut {
+                fs: None,
+                has_drops: false,
+            };
+        };
         let taken = take_out(&mut self.pending, &mut self.free, life, count);
         let left = life.facts().pending - count;
         mark(&mut self.dirty, block, left > 0);

@@ -1,6 +1,6 @@
 // The writes of blocks.
 
-ghost use Rattle.std.specs.Prelude.{◌≡◌, ◌≢◌, ◌<◌, ◌≤◌, [], false, All, IfOk, IfSome, IsTrue, OnOk, bytes_eq, is_some, length, slice_get, unwrap_or};
+ghost use Rattle.std.specs.Prelude.{◌≡◌, ◌≢◌, ◌≤◌, ℕ, [], Ok, false, All, IfOk, IfSome, OnErr, bytes_eq, is_some, length, slice_get, unwrap_or};
 ghost use Rattle.std.specs.Option.{option_copied};
 ghost use Rattle.xn_model.specs.Lives.{begun_at, current, drops_of, freed, life_at, settled_at};
 ghost use Rattle.xn_model.specs.Results.{result_map};
@@ -30,7 +30,7 @@ impl Lives {
         if life.facts().is_in_flight() {
             return Err(Refusal::InFlight);
         }
-        let count = self.index.safe_prefix(&self.cache, block, &life);
+        let count = self.index.safe_prefix(&self.cache, block, Some(&life));
         if count == 0 {
             return Err(Refusal::NothingSafe);
         }
@@ -47,27 +47,6 @@ impl Lives {
         self.cache.image(block, count)
     }
 
-    /// How many entries the bytes that are read back make durable, or where there are none the newest ones.
-    #[inline(always)]
-    pub fn settled_unless(
-        &self,
-        block: u32,
-        other: Option<&[u8; BLOCK_LEN]>,
-    ) -> Result<u32, Refusal>
-        ensures count { result ≡ settled_place (unwrap_or (option_copied other.entry) (life_bytes (life_at self.now block))) (slice_get self.now block) }
-        ensures alive { OnOk result (IsTrue (is_some (life_at self.now block))) }
-        ensures within { IfOk result (λ count. count ≤ life_pending (life_at self.now block)) }
-        ensures few { IfOk result (λ count. count ≤ 64) }
-    {
-        let Some(life) = self.cache.live(block) else {
-            return Err(Refusal::NotMine);
-        };
-        match other {
-            Some(bytes) => settled(&life, bytes),
-            None => settled_as_newest(&life),
-        }
-    }
-
     /// Begins a write of a block that carries its first entries.
     #[inline(always)]
     pub fn begin(&mut self, block: u32, count: u32)
@@ -79,25 +58,44 @@ impl Lives {
         self.index.note_begin(&self.cache, block);
     }
 
-    /// Ends a write of a block that made its first entries durable: the blocks that they drop are free. Answers how many
-    /// these are.
-    pub fn settle(&mut self, block: u32, count: u32) -> u32
-        requires alive { IsTrue (is_some (life_at self.old block)) }
-        requires within { count ≤ life_pending (life_at self.old block) }
-        requires few { count ≤ 64 }
-        requires drops { MayFree self.old block (drops_of (first_pending count (life_at self.old block))) }
-        ensures lives { self.new ≡ freed (settled_at self.old block count) (drops_of (first_pending count (life_at self.old block))) }
-        ensures count { result ≡ length (drops_of (first_pending count (life_at self.old block))) }
+    /// Ends a write of a block by the bytes that are read back, or where there are none by its newest ones: the entries that these make
+    /// durable are forgotten, and the blocks that they drop are free. Answers how many these are, and those.
+    pub fn settle_unless(
+        &mut self,
+        block: u32,
+        other: Option<&[u8; BLOCK_LEN]>,
+    ) -> Result<(u32, u32), Refusal>
+        requires drops { (count : ℕ) → settled_place (unwrap_or (option_copied other) (life_bytes (life_at self.old block))) (slice_get self.old block) ≡ Ok count →
+            MayFree self.old block (drops_of (first_pending count (life_at self.old block))) }
+        ensures count { result_map (λ done. done.0) result
+            ≡ settled_place (unwrap_or (option_copied other.entry) (life_bytes (life_at self.old block))) (slice_get self.old block) }
+        ensures freed { IfOk result (λ done. done.1 ≡ length (drops_of (first_pending done.0 (life_at self.old block)))) }
+        ensures lives { IfOk result (λ done. self.new ≡ freed (settled_at self.old block done.0) (drops_of (first_pending done.0 (life_at self.old block)))) }
+        ensures err { OnErr result (self.new ≡ self.old) }
     {
         let Some(life) = self.cache.live(block) else {
-            unreachable!()
+            return Err(Refusal::NotMine);
         };
+        let count = settled_unless(&life, other)?;
         let taken = self
             .index
-            .take_out(&self.cache, block, &life, count as usize);
+            .take_out(&self.cache, block, Some(&life), count as usize);
         let freed = end_write(&mut self.cache, block, count, taken.has_drops);
         self.index.note_settle(&self.cache, taken);
-        freed
+        Ok((count, freed))
+    }
+}
+
+/// How many entries of a life the bytes that are read back make durable, or where there are none the newest ones.
+#[inline(always)]
+fn settled_unless(life: &LiveBlock<'_>, other: Option<&[u8; BLOCK_LEN]>) -> Result<u32, Refusal>
+    ensures count { result ≡ settled_count life.now (unwrap_or (option_copied other.entry) (current life.now)) life.now.begun }
+    ensures within { IfOk result (λ count. count ≤ length life.now.pending) }
+    ensures few { IfOk result (λ count. count ≤ 64) }
+{
+    match other {
+        Some(bytes) => settled(life, bytes),
+        None => settled_as_newest(life),
     }
 }
 
