@@ -105,7 +105,7 @@ pub settled_free : (lives : Lives) (index : IndexValue) (b k : ℕ) → life_at 
 settled_free lives index b k free is =
     let same : slice_set lives b None ≡ lives = ap (slice_set lives b) (sym free ∙ place_is lives b) ∙ set-get_or lives b None in
     subst (λ o. IsIndex (freed (slice_set lives b (option_map (settle k) o)) (drops_of (first_pending k o))) index) (sym free) (
-      subst (λ (ls : Lives). IsIndex ls index) (sym same) is
+    subst (λ (ls : Lives). IsIndex ls index) (sym same) is
     )
 
 -- a life ends

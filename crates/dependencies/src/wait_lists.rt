@@ -1,6 +1,6 @@
 // Lists of the blocks that wait for a block.
 
-ghost use Rattle.std.specs.Prelude.{◌≡◌, ◌<◌, ℕ, length, replicate, slice_set, IfOk, IfSome, IfNone, None, Some, is_some};
+ghost use Rattle.std.specs.Prelude.{◌≡◌, ◌<◌, ℕ, length, replicate, slice_index_or, slice_set, IfOk, IfSome, IfNone, None, Some, is_some};
 ghost use Rattle.dependencies.specs.WaitLists.{at, Releases};
 
 use reserved_row::ReservedRow;
@@ -62,15 +62,36 @@ impl WaitLists {
 
     /// Takes a block from the front of the list of another: it waits no longer. `None` comes where none waits for that one, and
     /// changes nothing.
+    #[inline(always)]
     pub fn pop(&mut self, other: u32) -> Option<u32>
         ensures some { IfSome result (Releases self.old self.new other) }
         ensures same { IfNone result (self.new ≡ self.old) }
         ensures none { IfNone result ((b : ℕ) → at self.old b ≡ Some other → ⊥) }
     {
         let block = self.first.item(other as usize)?;
-        let next = self.next.item(block as usize);
-        self.first.set(other as usize, next);
-        self.waits_for.set(block as usize, None);
+        release(
+            &mut self.waits_for,
+            &mut self.first,
+            &self.next,
+            other,
+            block,
+        );
         Some(block)
     }
+}
+
+/// Takes the block that waits for another one in front of all others out of the rows.
+#[inline(never)]
+fn release(
+    waits_for: &mut ReservedRow<Option<u32>>,
+    first: &mut ReservedRow<Option<u32>>,
+    next: &ReservedRow<Option<u32>>,
+    other: u32,
+    block: u32,
+)
+    ensures waits { waits_for.new ≡ slice_set waits_for.old block None }
+    ensures first { first.new ≡ slice_set first.old other (slice_index_or next.now block None) }
+{
+    first.set(other as usize, next.item(block as usize));
+    waits_for.set(block as usize, None);
 }

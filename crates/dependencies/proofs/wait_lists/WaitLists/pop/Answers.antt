@@ -11,11 +11,11 @@ returns-in_err-block-clause-none c =
 
 pub invariant_of-self : goal.invariant_of-self
 invariant_of-self c =
-    rw (c.set-2.ensures, c.set.ensures, c.item-next.ensures) (popped c.self.inside.waits_for c.self.inside.first c.self.inside.next c.args.other c.in_ok-block.block c.self.invariant (sym c.in_ok-block.ensures))
+    rw (c.release.ensures.waits, c.release.ensures.first) (popped c.self.inside.waits_for c.self.inside.first c.self.inside.next c.args.other c.in_ok-block.block c.self.invariant (sym c.in_ok-block.ensures))
 
 pub returns-clause-some : goal.returns-clause-some
 returns-clause-some c =
     record {
       waited = ap (λ (row : List (Option ℕ)). at row c.in_ok-block.block) (sym c.self.view_is) ∙ front_waits c.self.inside.waits_for c.self.inside.first c.self.inside.next c.args.other c.in_ok-block.block c.self.invariant (sym c.in_ok-block.ensures);
-      now = c.set-2.ensures ∙ ap (λ (row : List (Option ℕ)). slice_set row c.in_ok-block.block None) c.self.view_is;
+      now = c.release.ensures.waits ∙ ap (λ (row : List (Option ℕ)). slice_set row c.in_ok-block.block None) c.self.view_is;
     }
