@@ -8,7 +8,6 @@ ghost use Rattle.xn_kernel.specs.FlushedStates.{StateRefuses, StateWaves};
 use disk::Lane;
 use std::alloc::Global;
 use xn_kernel::{FlushStop, Kernel, Refusal, Store};
-use xn_state::State;
 
 /// A store on a disk that can be flushed. What a flush leaves of rules and newest bytes is said by the law `flushes_keep_newest`.
 pub trait FlushStore: Store {
@@ -31,10 +30,6 @@ pub trait FlushStore: Store {
         ensures few { IfOk result (λ waves. waves ≤ most) }
         ensures done { IfOk result (λ waves. waves < most → AllWritten (Self.state_of self.new).lives) }
         ensures err { IfErr result (λ refusal. StateRefuses (Self.state_of self.old) refusal (Self.state_of self.new)) };
-
-    /// What it knows of blocks and types, to be asked.
-    fn state(&self) -> &State
-        ensures { result.now ≡ Self.state_of self.now };
 }
 
 /// What a flush answers. The lanes of blocks that could not be finished are given up.
@@ -69,9 +64,5 @@ impl<L: Lane + Drop> FlushStore for Kernel<L> {
         self.keeps_rules();
         let flushed = Kernel::flush_waves(self, alloc, most);
         waves_of(flushed)
-    }
-
-    fn state(&self) -> &State {
-        Kernel::state(self)
     }
 }

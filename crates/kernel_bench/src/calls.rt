@@ -1,4 +1,4 @@
-// Times the calls of a kernel on disks of 32 and of 32,768 blocks.
+// Times the calls of a kernel on disks of 32, of 32,768 and of 2^20 blocks.
 
 mod blocks;
 mod disks;
@@ -104,4 +104,12 @@ pub fn time_calls<R: Threads + Clock + Print + Eprint + Sync>(
     time_disk(rt, alloc, 32, "32", false)?;
     time_disk(rt, alloc, 32_768, "32768", false)?;
     time_disk(rt, alloc, 32_768, "inodes", true)
+}
+
+/// Times calls on the largest disk.
+pub fn time_large_calls<R: Threads + Clock + Print + Eprint + Sync>(
+    rt: &R,
+    alloc: Global,
+) -> io::Result<()> {
+    time_disk(rt, alloc, 1_048_576, "1048576", false)
 }

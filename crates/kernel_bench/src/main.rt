@@ -9,7 +9,7 @@ mod programs;
 mod sharing;
 
 use anyhow::{Result, bail};
-use calls::time_calls;
+use calls::{time_calls, time_large_calls};
 use checks::time_checks;
 use programs::time_programs;
 use sharing::time_shared;
@@ -29,9 +29,10 @@ fn time<R: Threads + Wait + Clock + Print + Eprint + Sync>(
     match word {
         "programs" => time_programs(threads, alloc, rt.stdin()),
         "kernel" => Ok(time_calls(threads, alloc)?),
+        "large" => Ok(time_large_calls(threads, alloc)?),
         "check" => Ok(time_checks(threads, alloc)?),
         "shared" => Ok(time_shared(threads, alloc, *rt)?),
-        _ => bail!("the words are programs, kernel, check and shared"),
+        _ => bail!("the words are programs, kernel, large, check and shared"),
     }
 }
 

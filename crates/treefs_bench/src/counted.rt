@@ -6,7 +6,6 @@ use edit_list::{Edit, EditId, Fs};
 use flush_store::FlushStore;
 use std::alloc::Global;
 use store_types::{BLOCK_LEN, Refusal};
-use templates::Template;
 use xn_state::{State, Store};
 
 /// A store that counts the waves in which it is written.
@@ -45,36 +44,8 @@ impl<S: FlushStore> Store for Counted<S> {
         self.store.forget(fs, block)
     }
 
-    fn read(&self, fs: Fs, block: u32) -> Result<&[u8; BLOCK_LEN], Refusal> {
-        self.store.read(fs, block)
-    }
-
-    fn root(&self, fs: Fs) -> Option<u32> {
-        self.store.root(fs)
-    }
-
-    fn template(&self, ty: u32) -> Option<&Template> {
-        self.store.template(ty)
-    }
-
-    fn pending(&self, fs: Fs) -> u32 {
-        self.store.pending(fs)
-    }
-
-    fn pending_in(&self, block: u32) -> u32 {
-        self.store.pending_in(block)
-    }
-
-    fn newest_entry(&self, block: u32) -> Option<EditId> {
-        self.store.newest_entry(block)
-    }
-
-    fn floor(&self, fs: Fs) -> u64 {
-        self.store.floor(fs)
-    }
-
-    fn kind(&self, fs: Fs, block: u32) -> Result<u32, Refusal> {
-        self.store.kind(fs, block)
+    fn state(&self) -> &State {
+        self.store.state()
     }
 }
 
@@ -89,9 +60,5 @@ impl<S: FlushStore> FlushStore for Counted<S> {
         let waves = self.store.flush_waves(alloc, most)?;
         self.waves = self.waves.saturating_add(waves);
         Ok(waves)
-    }
-
-    fn state(&self) -> &State {
-        self.store.state()
     }
 }

@@ -8,9 +8,8 @@ use edit_list::{Edit, EditId, Fs};
 use std::alloc::Global;
 use std::marker::Model;
 use store_types::{BLOCK_LEN, Refusal};
-use templates::Template;
 use world::{Event, Reply, Running};
-use xn_state::Store;
+use xn_state::{State, Store};
 
 /// A store, and the lines of the calls that changed it since they were last taken.
 pub struct Recorder<S> {
@@ -194,35 +193,7 @@ impl<S: Store> Store for Recorder<S> {
         done
     }
 
-    fn read(&self, fs: Fs, block: u32) -> Result<&[u8; BLOCK_LEN], Refusal> {
-        self.store.read(fs, block)
-    }
-
-    fn root(&self, fs: Fs) -> Option<u32> {
-        self.store.root(fs)
-    }
-
-    fn template(&self, ty: u32) -> Option<&Template> {
-        self.store.template(ty)
-    }
-
-    fn kind(&self, fs: Fs, block: u32) -> Result<u32, Refusal> {
-        self.store.kind(fs, block)
-    }
-
-    fn pending(&self, fs: Fs) -> u32 {
-        self.store.pending(fs)
-    }
-
-    fn pending_in(&self, block: u32) -> u32 {
-        self.store.pending_in(block)
-    }
-
-    fn newest_entry(&self, block: u32) -> Option<EditId> {
-        self.store.newest_entry(block)
-    }
-
-    fn floor(&self, fs: Fs) -> u64 {
-        self.store.floor(fs)
+    fn state(&self) -> &State {
+        self.store.state()
     }
 }

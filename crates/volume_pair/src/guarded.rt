@@ -15,9 +15,8 @@ use std::alloc::Global;
 use std::marker::Model;
 use std::thread::Threads;
 use store_types::{BLOCK_LEN, Refusal};
-use templates::Template;
 use world::{Event, Reply, Running, World};
-use xn_state::{Edit, Store};
+use xn_state::{Edit, State, Store};
 
 /// A file system that makes no calls meanwhile, with its volume where that is open.
 #[derive(Drop)]
@@ -158,36 +157,8 @@ impl<S: Disk> Store for Guarded<S> {
         self.store.forget(fs, block)
     }
 
-    fn read(&self, fs: Fs, block: u32) -> Result<&[u8; BLOCK_LEN], Refusal> {
-        self.store.read(fs, block)
-    }
-
-    fn root(&self, fs: Fs) -> Option<u32> {
-        self.store.root(fs)
-    }
-
-    fn template(&self, ty: u32) -> Option<&Template> {
-        self.store.template(ty)
-    }
-
-    fn kind(&self, fs: Fs, block: u32) -> Result<u32, Refusal> {
-        self.store.kind(fs, block)
-    }
-
-    fn pending(&self, fs: Fs) -> u32 {
-        self.store.pending(fs)
-    }
-
-    fn pending_in(&self, block: u32) -> u32 {
-        self.store.pending_in(block)
-    }
-
-    fn newest_entry(&self, block: u32) -> Option<EditId> {
-        self.store.newest_entry(block)
-    }
-
-    fn floor(&self, fs: Fs) -> u64 {
-        self.store.floor(fs)
+    fn state(&self) -> &State {
+        self.store.state()
     }
 }
 

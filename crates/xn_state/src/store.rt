@@ -9,7 +9,9 @@ ghost use Rattle.xn_model.specs.Calls.{init_of, propose_of, make_root_of, forget
 ghost use Rattle.xn_model.specs.PendingIn.{newest_entry_of, pending_in_of};
 ghost use Rattle.xn_model.specs.Rules.{IsConsistent};
 ghost use Rattle.templates.specs.Tables.{TellsTemplate};
+ghost use Rattle.xn_state.specs.States.{own_types};
 
+use crate::state::State;
 use edit_list::{Edit, EditId, Fs};
 use store_types::{BLOCK_LEN, Refusal};
 use templates::Template;
@@ -71,47 +73,92 @@ pub trait Store {
         ensures types { types_of self.new ≡ types_of self.old }
         ensures rules { IsConsistent (types_of self.new) (state_of self.new) };
 
+    /// What it knows of blocks and types, to be asked.
+    fn state(&self) -> &State
+        ensures state { result.now ≡ state_of self.now }
+        ensures types { own_types result.now ≡ types_of self.now };
+
     /// The current bytes of a block of the file system: those of its newest pending entry, or where none is pending the durable
     /// ones. Refused are, in this order, a block past the end of the disk (`NoSuchBlock`), a free or dropped one (`NotInUse`), and
     /// one of another file system or of nobody (`NotYours`).
     fn read(&self, fs: Fs, block: u32) -> Result<&[u8; BLOCK_LEN], Refusal>
         ensures bytes { Lends (read_of (state_of self.now) fs.number block) result }
-        ensures rules { IsConsistent (types_of self.now) (state_of self.now) };
+        ensures rules { IsConsistent (types_of self.now) (state_of self.now) }
+    {
+        let state = self.state();
+        state.keeps_rules();
+        state.read(fs, block)
+    }
 
     /// The block in the file system's root slot, as block 0's newest state has it; `None` where the slot is empty.
     fn root(&self, fs: Fs) -> Option<u32>
         ensures block { result ≡ root_of (state_of self.now) fs.number }
-        ensures rules { IsConsistent (types_of self.now) (state_of self.now) };
+        ensures rules { IsConsistent (types_of self.now) (state_of self.now) }
+    {
+        let state = self.state();
+        state.keeps_rules();
+        state.root(fs)
+    }
 
     /// The template of a type, or `None` where the type is not installed.
     fn template(&self, ty: u32) -> Option<&Template>
         ensures template { TellsTemplate (types_of self.now) ty (option_copied result) }
-        ensures rules { IsConsistent (types_of self.now) (state_of self.now) };
+        ensures rules { IsConsistent (types_of self.now) (state_of self.now) }
+    {
+        let state = self.state();
+        state.keeps_rules();
+        state.template(ty)
+    }
 
     /// How many pending entries of all blocks count for the file system.
     fn pending(&self, fs: Fs) -> u32
         ensures pending { result ≡ pending_of (state_of self.now) fs.number }
-        ensures rules { IsConsistent (types_of self.now) (state_of self.now) };
+        ensures rules { IsConsistent (types_of self.now) (state_of self.now) }
+    {
+        let state = self.state();
+        state.keeps_rules();
+        state.pending(fs)
+    }
 
     /// How many entries of a block are pending, those that a begun write carries included; 0 where it is free, or past the end of the disk.
     fn pending_in(&self, block: u32) -> u32
         ensures pending { result ≡ pending_in_of (state_of self.now) block }
-        ensures rules { IsConsistent (types_of self.now) (state_of self.now) };
+        ensures rules { IsConsistent (types_of self.now) (state_of self.now) }
+    {
+        let state = self.state();
+        state.keeps_rules();
+        state.pending_in(block)
+    }
 
     /// The number of the newest pending entry of a block, `None` where nothing is pending there. Entries of a block are durable in order: an
     /// edit that comes after this one stands behind all of the block as it is now.
     fn newest_entry(&self, block: u32) -> Option<EditId>
         ensures entry { result ≡ newest_entry_of (state_of self.now) block }
-        ensures rules { IsConsistent (types_of self.now) (state_of self.now) };
+        ensures rules { IsConsistent (types_of self.now) (state_of self.now) }
+    {
+        let state = self.state();
+        state.keeps_rules();
+        state.newest_entry(block)
+    }
 
     /// The least pending entry of the file system, or the next number to be given: all entries of it below are durable, or of lives that
     /// have ended.
     fn floor(&self, fs: Fs) -> u64
         ensures floor { result ≡ floor_of (state_of self.now) fs.number }
-        ensures rules { IsConsistent (types_of self.now) (state_of self.now) };
+        ensures rules { IsConsistent (types_of self.now) (state_of self.now) }
+    {
+        let state = self.state();
+        state.keeps_rules();
+        state.floor(fs)
+    }
 
     /// The type of a block of the file system, with the refusals of `read`.
     fn kind(&self, fs: Fs, block: u32) -> Result<u32, Refusal>
         ensures kind { result ≡ kind_of (state_of self.now) fs.number block }
-        ensures rules { IsConsistent (types_of self.now) (state_of self.now) };
+        ensures rules { IsConsistent (types_of self.now) (state_of self.now) }
+    {
+        let state = self.state();
+        state.keeps_rules();
+        state.kind(fs, block)
+    }
 }

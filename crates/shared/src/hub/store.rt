@@ -9,8 +9,8 @@ use crate::hub::Hub;
 use disk::Lane;
 use durable_floor::Naming;
 use store_types::BLOCK_LEN;
-use templates::Template;
 use xn_kernel::{Edit, EditId, Fs, Refusal, Store};
+use xn_state::State;
 
 impl<L: Lane, K: Naming> Store for Hub<L, K> {
     ghost use Rattle.xn_state.specs.States.{own_types};
@@ -37,35 +37,7 @@ impl<L: Lane, K: Naming> Store for Hub<L, K> {
         self.kernel.forget(fs, block)
     }
 
-    fn read(&self, fs: Fs, block: u32) -> Result<&[u8; BLOCK_LEN], Refusal> {
-        self.kernel.read(fs, block)
-    }
-
-    fn kind(&self, fs: Fs, block: u32) -> Result<u32, Refusal> {
-        self.kernel.kind(fs, block)
-    }
-
-    fn root(&self, fs: Fs) -> Option<u32> {
-        self.kernel.root(fs)
-    }
-
-    fn template(&self, ty: u32) -> Option<&Template> {
-        self.kernel.template(ty)
-    }
-
-    fn pending(&self, fs: Fs) -> u32 {
-        self.kernel.pending(fs)
-    }
-
-    fn pending_in(&self, block: u32) -> u32 {
-        self.kernel.pending_in(block)
-    }
-
-    fn newest_entry(&self, block: u32) -> Option<EditId> {
-        self.kernel.newest_entry(block)
-    }
-
-    fn floor(&self, fs: Fs) -> u64 {
-        self.kernel.floor(fs)
+    fn state(&self) -> &State {
+        self.kernel.state()
     }
 }

@@ -8,8 +8,7 @@ ghost use Rattle.world.specs.Worlds.{WorldValue};
 use crate::running::Running;
 use std::alloc::Allocator;
 use store_types::{BLOCK_LEN, Refusal};
-use templates::Template;
-use xn_state::{Edit, EditId, Fs, Store};
+use xn_state::{Edit, EditId, Fs, State, Store};
 
 impl<A: Allocator> Store for Running<A> {
     ghost use Rattle.xn_state.specs.States.{own_types};
@@ -36,35 +35,7 @@ impl<A: Allocator> Store for Running<A> {
         self.kernel.forget(fs, block)
     }
 
-    fn read(&self, fs: Fs, block: u32) -> Result<&[u8; BLOCK_LEN], Refusal> {
-        self.kernel.read(fs, block)
-    }
-
-    fn kind(&self, fs: Fs, block: u32) -> Result<u32, Refusal> {
-        self.kernel.kind(fs, block)
-    }
-
-    fn root(&self, fs: Fs) -> Option<u32> {
-        self.kernel.root(fs)
-    }
-
-    fn template(&self, ty: u32) -> Option<&Template> {
-        self.kernel.template(ty)
-    }
-
-    fn pending(&self, fs: Fs) -> u32 {
-        self.kernel.pending(fs)
-    }
-
-    fn pending_in(&self, block: u32) -> u32 {
-        self.kernel.pending_in(block)
-    }
-
-    fn newest_entry(&self, block: u32) -> Option<EditId> {
-        self.kernel.newest_entry(block)
-    }
-
-    fn floor(&self, fs: Fs) -> u64 {
-        self.kernel.floor(fs)
+    fn state(&self) -> &State {
+        self.kernel.state()
     }
 }

@@ -8,8 +8,7 @@ ghost use Rattle.xn_kernel.specs.Kernels.{KernelValue};
 use crate::kernel::Kernel;
 use disk::Lane;
 use store_types::BLOCK_LEN;
-use templates::Template;
-use xn_state::{Edit, EditId, Fs, Refusal, Store};
+use xn_state::{Edit, EditId, Fs, Refusal, State, Store};
 
 impl<L: Lane> Store for Kernel<L> {
     ghost use Rattle.xn_state.specs.States.{own_types};
@@ -44,43 +43,7 @@ impl<L: Lane> Store for Kernel<L> {
         done
     }
 
-    fn read(&self, fs: Fs, block: u32) -> Result<&[u8; BLOCK_LEN], Refusal> {
-        self.keeps_rules();
-        self.state.read(fs, block)
-    }
-
-    fn kind(&self, fs: Fs, block: u32) -> Result<u32, Refusal> {
-        self.keeps_rules();
-        self.state.kind(fs, block)
-    }
-
-    fn root(&self, fs: Fs) -> Option<u32> {
-        self.keeps_rules();
-        self.state.root(fs)
-    }
-
-    fn template(&self, ty: u32) -> Option<&Template> {
-        self.keeps_rules();
-        self.state.template(ty)
-    }
-
-    fn pending(&self, fs: Fs) -> u32 {
-        self.keeps_rules();
-        self.state.pending(fs)
-    }
-
-    fn pending_in(&self, block: u32) -> u32 {
-        self.keeps_rules();
-        self.state.pending_in(block)
-    }
-
-    fn newest_entry(&self, block: u32) -> Option<EditId> {
-        self.keeps_rules();
-        self.state.newest_entry(block)
-    }
-
-    fn floor(&self, fs: Fs) -> u64 {
-        self.keeps_rules();
-        self.state.floor(fs)
+    fn state(&self) -> &State {
+        &self.state
     }
 }

@@ -29,6 +29,6 @@ returns g c =
     let past = c.loop-index-test.false in
     let within = c.loop-index.auto.index-end in
     let whole : c.loop-index.index ≡ 128 = omega arith in
-    usage_is _ _ _ _ (c.free.ensures ∙ ap free_of c.state.ensures ∙ ap (λ v. free_of (g.S.Store.state_of v.store)) c.self.view_is)
+    usage_is _ _ _ _ (c.free.ensures ∙ ap free_of c.state.ensures.state ∙ ap (λ v. free_of (g.S.Store.state_of v.store)) c.self.view_is)
     (used_all (latest (g.S.Store.state_of c.args.self.now.store).lives) c.args.self.now.fs c.loop-index.used_inodes
     (subst (λ n. UsedTo is n c.loop-index.used_inodes) whole c.loop-index.invariant))
