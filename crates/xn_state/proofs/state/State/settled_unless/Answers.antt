@@ -12,7 +12,7 @@ pub settle_unless-requires : goal.settle_unless-requires
 settle_unless-requires c =
     let old = state_of c.self.inside.lives c.self.inside.next in
     let bytes = unwrap_or (option_copied c.args.other) (life_bytes (life_at c.self.inside.lives c.args.block)) in
-    record { drops = λ count. may_free (own_types old) old c.args.block count bytes c.self.invariant.rules; }
+    record { drops = λ count. may_free (own_types old) old c.args.block count bytes c.self.invariant.rules }
 
 pub invariant_of-self : goal.invariant_of-self
 invariant_of-self c =
