@@ -12,6 +12,7 @@ use tree_lines::{Fault, Opened, Place, Reason, at_bytes, system, there};
 use treefs::Attributes;
 use treefs_byte_plans::{Attributes as Settings, Owner};
 use treefs_format::Kind;
+use treefs_format::sizes::GREATEST_SIZE;
 use treefs_session::{Begin, Commit, Put, SetAttributes, SetMtime, Target};
 
 /// How many bytes of a file stand beside its attributes.
@@ -155,8 +156,12 @@ impl<'a, H: Host, S: FlushStore + Drop> Arriving<'a, H, S> {
             .make(self.alloc, path, &SetAttributes { number, settings })
     }
 
-    /// That a disk may have so many bytes more: one that has fewer blocks than they take has no space for them.
+    /// That a disk may have so many bytes more: no file is longer than the greatest, and one that has fewer blocks than they take has no space
+    /// for them.
     pub fn want_space(&self, goods: Goods) -> Result<(), Fault> {
+        if goods.attributes.size > GREATEST_SIZE {
+            return Err(at_bytes(self.alloc, goods.path, Reason::FileTooLarge));
+        }
         let usage = tree_lines::View::usage(&self.volume.session);
         let size = goods.attributes.size.min(goods.attributes.held);
         if size / LEAF > u64::from(usage.blocks) {

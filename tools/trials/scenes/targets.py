@@ -4,6 +4,7 @@ import os
 import pwd
 import shutil
 import stat
+import time
 
 from trials.scenes.room import XNFS, fresh, read, run, scene, want, write
 
@@ -316,3 +317,16 @@ def a_disk_that_may_only_be_read_can_be_read():
     seen = run("setpriv", "--reuid", "nobody", "--clear-groups", "./xnfs", "d.img", "cat", "/a")
     want(seen.stdout == b"bytes", f"a disk without write rights can't be read: {seen.stderr[:80]!r}")
     return None
+
+
+@scene
+def a_file_past_the_greatest_is_refused_unread():
+    fresh(a=b"kept")
+    write("long", b"")
+    os.truncate("long", 140_000_000_000)
+    begun = time.monotonic()
+    done = run(XNFS, "d.img", "put", "long", "/a", status=1)
+    took = time.monotonic() - begun
+    want(b"too large" in done.stderr, f"told {done.stderr!r}")
+    want(took < 5, f"it took {took:.1f} s")
+    want(run(XNFS, "d.img", "cat", "/a", status=0).stdout == b"kept", "the file that stood there is gone")
