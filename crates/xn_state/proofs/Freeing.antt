@@ -1,18 +1,12 @@
 -- Blocks that are free once a write is done.
-use Rattle.std.proofs.Common.{◌≡◌, ◌≢◌, ℕ, zero, suc, List, [], ◌∷◌, length, take, refl, sym, ◌∙◌, ap, arith, subst, inl, inr}
-use Rattle.std.specs.Prelude.{All, Contains, Ok, slice_get}
+use Rattle.std.proofs.Common.{◌≡◌, ℕ, List, length, take, refl, sym, ◌∙◌, ap, subst, inl, inr}
+use Rattle.std.specs.Prelude.{Contains, Ok, slice_get}
 use Rattle.xn_model.specs.Types.{Types}
 use Rattle.xn_model.specs.Lives.{BlockState, StoreState, life_at, alive_and, is_owned_by, carried, first_states, drops_of}
 use Rattle.xn_model.specs.Calls.{life_pending, settled_place, first_pending}
 use Rattle.xn_model.specs.Rules.{IsConsistent, IsBy}
-use Rattle.xn_model.proofs.ForCallers.{Contains-head, Contains-tail, Contains-none, Contains-take, settles_place, drops_at}
+use Rattle.xn_model.proofs.ForCallers.{Contains-none, Contains-take, settles_place, drops_at}
 use Rattle.dependencies.specs.Index.{MayFree}
-
--- none of the dropped blocks is the one that is written
-pub apart_all : (xs : List ℕ) (b : ℕ) → (Contains xs b → ⊥) → All (λ c. c ≢ b) xs
-apart_all [] b none k d within = absurd (omega arith)
-apart_all (x ∷ xs) b none zero d within = λ e. none (subst (Contains (x ∷ xs)) e (Contains-head x xs))
-apart_all (x ∷ xs) b none (suc k) d within = apart_all xs b (λ i. none (Contains-tail x xs b i)) k d (omega arith)
 
 -- What a write drops
 
