@@ -14,7 +14,7 @@ use treefs_model::Fault;
 pub enum DiskFault {
     /// The file is no disk, or can't be had.
     #[error("{0}")]
-    File(FileFault),
+    File(#[from] FileFault),
     /// No fresh disk is made.
     #[error("no disk is made: {0}")]
     Format(FormatFault),
@@ -43,12 +43,6 @@ impl From<AllocError> for DiskFault {
 impl<T: Drop> From<AllocFailed<T>> for DiskFault {
     fn from(_error: AllocFailed<T>) -> DiskFault {
         DiskFault::NoMemory
-    }
-}
-
-impl From<FileFault> for DiskFault {
-    fn from(fault: FileFault) -> DiskFault {
-        DiskFault::File(fault)
     }
 }
 

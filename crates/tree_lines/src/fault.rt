@@ -23,7 +23,7 @@ pub enum Fault {
     Target { path: String, fault: WriteFault },
     /// The file is no disk, or can't be had.
     #[error("{0}")]
-    File(FileFault),
+    File(#[from] FileFault),
     /// Something at the volume as a whole.
     #[error("{0}")]
     Volume(Reason),
@@ -45,7 +45,7 @@ pub enum Fault {
     #[error("no memory")]
     NoMemory,
     #[error("a standard stream failed: {0}")]
-    Stream(io::Error),
+    Stream(#[from] io::Error),
 }
 
 impl From<AllocError> for Fault {
@@ -57,18 +57,6 @@ impl From<AllocError> for Fault {
 impl<T: Drop> From<AllocFailed<T>> for Fault {
     fn from(_error: AllocFailed<T>) -> Fault {
         Fault::NoMemory
-    }
-}
-
-impl From<io::Error> for Fault {
-    fn from(error: io::Error) -> Fault {
-        Fault::Stream(error)
-    }
-}
-
-impl From<FileFault> for Fault {
-    fn from(fault: FileFault) -> Fault {
-        Fault::File(fault)
     }
 }
 

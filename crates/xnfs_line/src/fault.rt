@@ -11,10 +11,10 @@ use tree_lines::Fault;
 pub enum LineFault {
     /// Something of the word.
     #[error("{0}")]
-    Word(Fault),
+    Word(#[from] Fault),
     /// The disk is not made or opened.
     #[error("{0}")]
-    Disk(DiskFault),
+    Disk(#[from] DiskFault),
     /// A word that names a file of the system has no bytes.
     #[error("the word {0} is empty")]
     Empty(&'static str),
@@ -30,18 +30,6 @@ pub enum LineFault {
     /// The system tells neither the time nor random bytes.
     #[error("the system: {0}")]
     System(io::Error),
-}
-
-impl From<Fault> for LineFault {
-    fn from(fault: Fault) -> LineFault {
-        LineFault::Word(fault)
-    }
-}
-
-impl From<DiskFault> for LineFault {
-    fn from(fault: DiskFault) -> LineFault {
-        LineFault::Disk(fault)
-    }
 }
 
 impl From<AllocError> for LineFault {
