@@ -25,4 +25,8 @@ mod Listing
 mod Committed
 mod Replaced
 mod TimesWritten
+mod Answering
 mod Refused
+mod RefusedNames
+mod Filled
+mod RefusedRemovals

@@ -1,9 +1,38 @@
 -- Why a call is refused, but for what the files say.
---     IsWant     it has no room until something is written, or the store refuses
-use Rattle.std.specs.Prelude.{◌≡◌, ◌⊎◌}
+--     IsWant        it has no room until something is written, or the store refuses
+--     IsNoPlace     there is no room, no bucket has a place for the name, or an inode has as many links as there may be
+--     IsNoNumber    that, or there is no number
+--     IsOfStore     the store refuses, or has no block that is free
+--     IsNotRemoved  what the files say where a directory's name doesn't end
+--     IsRefused     the session is as it was; so is the store, and this was answered, or else the store's refusal
+use Rattle.std.specs.Prelude.{◌≡◌, ◌⊎◌, ℕ, ℤ, Bool, false, List, Ok, Err}
+use Rattle.xn_model.specs.Lives.{StoreState}
 use Rattle.store_types.specs.declared.refusal.Refusal.{Refusal}
+use Rattle.treefs_model.specs.Changes.{removed}
+use Rattle.treefs_model.specs.Files.{Files, number_in}
 use Rattle.treefs_model.specs.declared.fault.Fault.{Fault}
-use Rattle.treefs_model.specs.declared.fault.Fault.TheVariants.{Full, Kernel}
+use Rattle.treefs_model.specs.declared.fault.Fault.TheVariants.{Full, Kernel, NoInode, NoSpace, TooLarge}
+use Rattle.treefs.specs.declared.volume.Volume.{Volume}
+use Rattle.treefs_laws.specs.Kept.{HasSomeName}
 
 abbrev pub IsWant : Fault → Type 0
 IsWant fault = (fault ≡ Full) ⊎ ((reason : Refusal) × (fault ≡ Kernel reason))
+
+abbrev pub IsNoPlace : Fault → Type 0
+IsNoPlace fault = (fault ≡ Full) ⊎ (fault ≡ TooLarge)
+
+abbrev pub IsNoNumber : Fault → Type 0
+IsNoNumber fault = IsNoPlace fault ⊎ (fault ≡ NoInode)
+
+abbrev pub IsOfStore : Fault → Type 0
+IsOfStore fault = (fault ≡ NoSpace) ⊎ ((reason : Refusal) × (fault ≡ Kernel reason))
+
+-- where the store refuses an edit, those before it may be made
+abbrev pub IsRefused : StoreState → StoreState → Volume → Volume → Fault → Type 0 → Type 0
+IsRefused state state' volume volume' fault Answered = (volume' ≡ volume) × (((state' ≡ state) × Answered) ⊎ IsOfStore fault)
+
+-- `removed` answers a fault, and where it was told that the directory is not empty a name stands there
+pub record IsNotRemoved (files : Files) (time : ℤ) (d : ℕ) (name : List ℕ) (fault : Fault) : Type 0 where
+  pub empty : Bool
+  pub answers : removed files time d name empty ≡ Err fault
+  pub filled : empty ≡ false → (n : ℕ) × (number_in files d name ≡ Ok n) × HasSomeName files n

@@ -7,7 +7,7 @@ ghost use Rattle.xn_model.specs.Lives.{StoreState};
 ghost use Rattle.store_types.specs.declared.refusal.Refusal.{Refusal};
 ghost use Rattle.treefs_format.specs.declared.kind.Kind.{Kind};
 ghost use Rattle.treefs_format.specs.declared.kind.Kind.TheVariants as kinds;
-ghost use Rattle.treefs_model.specs.Changes.{IsListing, linked, read, removed, replaced, target, unlinked, with_mtime};
+ghost use Rattle.treefs_model.specs.Changes.{IsListing, linked, new_name, read, removed, replaced, target, unlinked, with_mtime};
 ghost use Rattle.treefs_model.specs.Files.{Directory, File, Inode, Names, SymbolicLink, and_then, changed_at, found, number_in};
 ghost use Rattle.treefs_model.specs.declared.fault.Fault.{Fault};
 ghost use Rattle.treefs_model.specs.declared.fault.Fault.TheVariants.{Full, Kernel};
@@ -33,7 +33,7 @@ ghost use Rattle.treefs_laws.specs.Kept.{HasNoNames, IsKept, files_in};
 ghost use Rattle.treefs_laws.specs.Making.{FitsAttributes, MakesInode, new_inode};
 ghost use Rattle.treefs_laws.specs.Open.{IsOpen};
 ghost use Rattle.treefs_laws.specs.Reading.{AreAnswered, HasFewBytes, listed_by, read_bytes};
-ghost use Rattle.treefs_laws.specs.Refusals.{IsWant};
+ghost use Rattle.treefs_laws.specs.Refusals.{IsNoNumber, IsNoPlace, IsNotRemoved, IsRefused, IsWant};
 ghost use Rattle.treefs_laws.specs.Setting.{AreInWidth, with_attributes};
 
 use treefs_format::law::modes_are_read_back;
@@ -209,6 +209,47 @@ pub fn refused_unlink_answers_the_files()
         × (((state' ≡ state) × ((unlinked (files_in state volume) volume.memory.clock d name ≡ Err fault) ⊎ (fault ≡ Full)))
         ⊎ ((reason : Refusal) × (fault ≡ Kernel reason))) }
 {}
+
+/// `create`, `symlink` and `mkdir` that are refused leave the session as it was, and answer what the files say of the name, or that there is no room, place
+/// or number, and then all is as it was; or they answer the store's refusal.
+pub fn refused_new_inodes_answer_the_files()
+    ensures create { (T : Types) (state state' : StoreState) (volume volume' : Volume) (d : ℕ) (name : List ℕ) (attributes : NewAttributes) (fault : Fault) →
+        CreateDoes T state state' volume volume' d name attributes (Err fault) →
+        IsRefused state state' volume volume' fault ((new_name (files_in state volume) d name ≡ Err fault) ⊎ IsNoNumber fault) }
+    ensures symlink { (T : Types) (state state' : StoreState) (volume volume' : Volume) (d : ℕ) (name : List ℕ) (attributes : NewAttributes)
+        (target : List ℕ) (fault : Fault) → SymlinkDoes T state state' volume volume' d name attributes target (Err fault) →
+        IsRefused state state' volume volume' fault ((new_name (files_in state volume) d name ≡ Err fault) ⊎ IsNoNumber fault) }
+    ensures mkdir { (T : Types) (state state' : StoreState) (volume volume' : Volume) (d : ℕ) (name : List ℕ) (attributes : NewAttributes) (fault : Fault) →
+        MkdirDoes T state state' volume volume' d name attributes (Err fault) →
+        IsRefused state state' volume volume' fault ((new_name (files_in state volume) d name ≡ Err fault) ⊎ IsNoNumber fault) }
+{}
+
+/// So it is with `link`.
+pub fn refused_link_answers_the_files()
+    ensures { (T : Types) (state state' : StoreState) (volume volume' : Volume) (n d : ℕ) (name : List ℕ) (fault : Fault) →
+        LinkDoes T state state' volume volume' n d name (Err fault) →
+        IsRefused state state' volume volume' fault ((linked (files_in state volume) volume.memory.clock n d name ≡ Err fault) ⊎ IsNoPlace fault) }
+{}
+
+/// So it is with `commit`, where nothing is to be replaced, and where it may replace.
+pub fn refused_commit_answers_the_files()
+    ensures named { (T : Types) (state state' : StoreState) (volume volume' : Volume) (block d : ℕ) (name : List ℕ) (fault : Fault) →
+        CommitDoes T state state' volume volume' block d name false (Err fault) →
+        IsRefused state state' volume volume' fault ((new_name (files_in state volume) d name ≡ Err fault) ⊎ IsNoNumber fault) }
+    ensures replaced { (T : Types) (state state' : StoreState) (volume volume' : Volume) (block d : ℕ) (name : List ℕ) (fault : Fault) →
+        CommitDoes T state state' volume volume' block d name true (Err fault) →
+        IsRefused state state' volume volume' fault
+        (((n : ℕ) (inode : Inode) → replaced (files_in state volume) volume.memory.clock d name n inode ≡ Err fault) ⊎ IsNoNumber fault) }
+{}
+
+/// So it is with `rmdir`; where it answers that the directory is not empty a name stands there.
+pub fn refused_rmdir_answers_the_files()
+    ensures { (T : Types) (state state' : StoreState) (volume volume' : Volume) (d : ℕ) (name : List ℕ) (fault : Fault) → IsKept T state volume →
+        RmdirDoes T state state' volume volume' d name (Err fault) →
+        IsRefused state state' volume volume' fault (IsNotRemoved (files_in state volume) volume.memory.clock d name fault ⊎ (fault ≡ Full)) }
+{
+    layout_is_known();
+}
 
 /// An open volume is one still once `set_mtime`, `set_attributes`, `unlink` or `rmdir` is done.
 pub fn open_volumes_stay_open()
