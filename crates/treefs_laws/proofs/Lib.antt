@@ -30,3 +30,5 @@ mod Refused
 mod RefusedNames
 mod Filled
 mod RefusedRemovals
+mod MovesPlanned
+mod RefusedMoves

@@ -123,6 +123,15 @@ module _ (state : StoreState) (tree : Tree) (d : ℕ) (name : List ℕ) (x : Fou
       by (Ok place) is e = absurd (cc e)
       by (Err fault) is e = no_place state tree.fs.number name (name_hash key name) x.block dead g (sym is ∙ ap Err (same_fault fault g e))
 
+-- A link more
+
+pub no_more_links : (memory : Memory) (n : ℕ) (x : Found) (g : Fault) → more_links memory n x ≡ Err g → g ≡ TooLarge
+no_more_links memory n x g e = by (x.fields.links == 2 ^ 32 - 1) e
+  where
+    by : (t : Bool) → ◌≡◌ {A = Result LinkChange Fault} (if t then Err TooLarge else Ok (one_more memory n x)) (Err g) → g ≡ TooLarge
+    by true e = sym (same_fault TooLarge g e)
+    by false e = absurd (cc e)
+
 -- A number
 
 none_given : (state : StoreState) (tree : Tree) (memory : Memory) (g : Fault) → IsNumberFound state tree memory (Err g) → IsNoNumber g
@@ -203,7 +212,7 @@ module _ (state : StoreState) (volume : Volume) (d : ℕ) (name : List ℕ) (g :
         | inr three ↦ inr (elim (then_fails (addition_in state tree d three.0 name) (rest4 two.0 three.0) g three.2) [
           | inl none ↦ no_addition state tree d name one.0 one.1 three.0 g none
           | inr four ↦ elim (then_fails (more_links memory n two.0) (link_in_room state tree memory n three.0 four.0) g four.2) [
-            | inl none ↦ inr (many (two.0.fields.links == 2 ^ 32 - 1) two.0 none)
+            | inl none ↦ inr (no_more_links memory n two.0 g none)
             | inr five ↦ inl (full_or _ _ g five.2)
           ]
         ])
@@ -238,13 +247,9 @@ module _ (state : StoreState) (volume : Volume) (d : ℕ) (name : List ℕ) (g :
           ap (λ r. and_then r if_found) (directory_so state volume d ∙ ap (λ r. and_then r (λ (x : Found). Ok (number_of content (key_in content top) x.block))) there)
           ∙ (sym (then_twice (found seen n) linkable if_new) ∙ ap (λ r. and_then r if_new) (linkable_so state volume n))
 
-      many : (t : Bool) (x : Found) → ◌≡◌ {A = Result LinkChange Fault} (if t then Err TooLarge else Ok (one_more memory n x)) (Err g) → g ≡ TooLarge
-      many true x e = sym (same_fault TooLarge g e)
-      many false x e = absurd (cc e)
-
   -- an inode that was begun gets a name
 
-  no_naming : (x : Found) → directory_found content top d ≡ Ok x → (directory : ℕ) (end : Option NameEnd) → naming_in state tree d directory name end ≡ Err g → IsNoPlace g
+  pub no_naming : (x : Found) → directory_found content top d ≡ Ok x → (directory : ℕ) (end : Option NameEnd) → naming_in state tree d directory name end ≡ Err g → IsNoPlace g
   no_naming x there directory None e = elim (then_fails (addition_in state tree d directory name) (λ addition. Ok (Added addition)) g e) [
     | inl none ↦ no_addition state tree d name x there directory g none
     | inr a ↦ absurd (cc a.2)

@@ -4,16 +4,19 @@
 --     IsNoNumber    that, or there is no number
 --     IsOfStore     the store refuses, or has no block that is free
 --     IsNotRemoved  what the files say where a directory's name doesn't end
+--     IsNotMoved    what they say where a name doesn't move
 --     IsRefused     the session is as it was; so is the store, and this was answered, or else the store's refusal
-use Rattle.std.specs.Prelude.{◌≡◌, ◌⊎◌, ℕ, ℤ, Bool, false, List, Ok, Err}
+use Rattle.std.specs.Prelude.{◌≡◌, ◌⊎◌, ℕ, ℤ, Bool, true, false, List, Ok, Err}
 use Rattle.xn_model.specs.Lives.{StoreState}
 use Rattle.store_types.specs.declared.refusal.Refusal.{Refusal}
-use Rattle.treefs_model.specs.Changes.{removed}
+use Rattle.treefs_model.specs.Changes.{removed, renamed}
 use Rattle.treefs_model.specs.Files.{Files, number_in}
 use Rattle.treefs_model.specs.declared.fault.Fault.{Fault}
 use Rattle.treefs_model.specs.declared.fault.Fault.TheVariants.{Full, Kernel, NoInode, NoSpace, TooLarge}
+use Rattle.treefs_lookup.specs.Readable.{readable}
+use Rattle.treefs_name_plans.specs.Moves.{is_below, most_above}
 use Rattle.treefs.specs.declared.volume.Volume.{Volume}
-use Rattle.treefs_laws.specs.Kept.{HasSomeName}
+use Rattle.treefs_laws.specs.Kept.{HasSomeName, files_in}
 
 abbrev pub IsWant : Fault → Type 0
 IsWant fault = (fault ≡ Full) ⊎ ((reason : Refusal) × (fault ≡ Kernel reason))
@@ -36,3 +39,13 @@ pub record IsNotRemoved (files : Files) (time : ℤ) (d : ℕ) (name : List ℕ)
   pub empty : Bool
   pub answers : removed files time d name empty ≡ Err fault
   pub filled : empty ≡ false → (n : ℕ) × (number_in files d name ≡ Ok n) × HasSomeName files n
+
+-- `renamed` answers a fault. Where it was told that the new place is below the inode, the directories above say so; where it was told that what has the new
+-- name is not empty, a name stands there.
+pub record IsNotMoved (state : StoreState) (volume : Volume) (d : ℕ) (name : List ℕ) (to : ℕ) (new : List ℕ) (fault : Fault) : Type 0 where
+  pub below : Bool
+  pub empty : Bool
+  pub answers : renamed (files_in state volume) volume.memory.clock d name to new below empty ≡ Err fault
+  pub within : below ≡ true → (n : ℕ) × (number_in (files_in state volume) d name ≡ Ok n)
+      × (is_below (readable state volume.tree.fs.number) volume.tree.top n most_above to ≡ true)
+  pub filled : empty ≡ false → (m : ℕ) × (number_in (files_in state volume) to new ≡ Ok m) × HasSomeName (files_in state volume) m

@@ -20,6 +20,7 @@ ghost use Rattle.treefs.specs.Committing.{CommitDoes};
 ghost use Rattle.treefs.specs.Creating.{BeginDoes, CreateDoes, MkdirDoes, SymlinkDoes};
 ghost use Rattle.treefs.specs.Linking.{LinkDoes};
 ghost use Rattle.treefs.specs.Reads.{lookup_of, stat_of};
+ghost use Rattle.treefs.specs.Renaming.{RenameDoes};
 ghost use Rattle.treefs.specs.Setting.{AttributesDoes, MtimeDoes};
 ghost use Rattle.treefs.specs.Unlinking.{RmdirDoes, UnlinkDoes};
 ghost use Rattle.treefs.specs.WritingTimes.{WriteTimesDoes};
@@ -33,7 +34,7 @@ ghost use Rattle.treefs_laws.specs.Kept.{HasNoNames, IsKept, files_in};
 ghost use Rattle.treefs_laws.specs.Making.{FitsAttributes, MakesInode, new_inode};
 ghost use Rattle.treefs_laws.specs.Open.{IsOpen};
 ghost use Rattle.treefs_laws.specs.Reading.{AreAnswered, HasFewBytes, listed_by, read_bytes};
-ghost use Rattle.treefs_laws.specs.Refusals.{IsNoNumber, IsNoPlace, IsNotRemoved, IsRefused, IsWant};
+ghost use Rattle.treefs_laws.specs.Refusals.{IsNoNumber, IsNoPlace, IsNotMoved, IsNotRemoved, IsRefused, IsWant};
 ghost use Rattle.treefs_laws.specs.Setting.{AreInWidth, with_attributes};
 
 use treefs_format::law::modes_are_read_back;
@@ -247,6 +248,15 @@ pub fn refused_rmdir_answers_the_files()
     ensures { (T : Types) (state state' : StoreState) (volume volume' : Volume) (d : ℕ) (name : List ℕ) (fault : Fault) → IsKept T state volume →
         RmdirDoes T state state' volume volume' d name (Err fault) →
         IsRefused state state' volume volume' fault (IsNotRemoved (files_in state volume) volume.memory.clock d name fault ⊎ (fault ≡ Full)) }
+{
+    layout_is_known();
+}
+
+/// So it is with `rename`. A directory that would stand below itself is refused by what the inodes say of the directories above the new place.
+pub fn refused_rename_answers_the_files()
+    ensures { (T : Types) (state state' : StoreState) (volume volume' : Volume) (d : ℕ) (name : List ℕ) (to : ℕ) (new : List ℕ) (fault : Fault) →
+        IsKept T state volume → RenameDoes T state state' volume volume' d name to new (Err fault) →
+        IsRefused state state' volume volume' fault (IsNotMoved state volume d name to new fault ⊎ IsNoPlace fault) }
 {
     layout_is_known();
 }
