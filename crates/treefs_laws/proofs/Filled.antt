@@ -54,13 +54,13 @@ live_name content key c known d k few live =
           ∙ live_leads content c d.names k few e.0 e.1 e.2 (candidates (name_hash key e.0.name)) (λ j has. candidates_few known.high (name_hash key e.0.name) j has) there,
     )
 
-is_one : (content : ℕ → List ℕ) (key : List ℕ) (block parent : ℕ) (k : Kind) → k ≡ kind.Directory →
+pub is_one : (content : ℕ → List ℕ) (key : List ℕ) (block parent : ℕ) (k : Kind) → k ≡ kind.Directory →
     content_at content key block parent k ≡ Directory parent (number_of content key block)
 is_one content key block parent kind.Directory is = refl
 is_one content key block parent kind.File is = absurd (cc is)
 is_one content key block parent kind.SymbolicLink is = absurd (cc is)
 
-some_file : (o : Option Inode) (inode : Inode) → ok_or o NoEntry ≡ Ok inode → o ≡ Some inode
+pub some_file : (o : Option Inode) (inode : Inode) → ok_or o NoEntry ≡ Ok inode → o ≡ Some inode
 some_file None inode e = absurd (cc e)
 some_file (Some x) inode e = ap Some (same_done x inode e)
 

@@ -32,3 +32,8 @@ mod Filled
 mod RefusedRemovals
 mod MovesPlanned
 mod RefusedMoves
+mod MovePlans
+mod MovedSteps
+mod MovedStore
+mod MovedFiles
+mod MovedVolume

@@ -32,6 +32,7 @@ ghost use Rattle.treefs_byte_plans.specs.declared.attributes.Attributes.{Attribu
 ghost use Rattle.treefs_laws.specs.Begun.{IsBegun};
 ghost use Rattle.treefs_laws.specs.Kept.{HasNoNames, IsKept, files_in};
 ghost use Rattle.treefs_laws.specs.Making.{FitsAttributes, MakesInode, new_inode};
+ghost use Rattle.treefs_laws.specs.Moved.{IsOfDirectory, IsRenamed};
 ghost use Rattle.treefs_laws.specs.Open.{IsOpen};
 ghost use Rattle.treefs_laws.specs.Reading.{AreAnswered, HasFewBytes, listed_by, read_bytes};
 ghost use Rattle.treefs_laws.specs.Refusals.{IsNoNumber, IsNoPlace, IsNotMoved, IsNotRemoved, IsRefused, IsWant};
@@ -140,6 +141,16 @@ pub fn mkdir_makes_a_directory()
 {
     layout_is_known();
     modes_are_read_back();
+}
+
+/// `rename` moves a name, and does nothing else: what had the new name, if something other had, loses a link, and a directory stands where its new name is.
+/// Where both names lead to one inode nothing is done. Told is that no directory stands in itself, and where the one stands that moves.
+pub fn rename_moves_a_name()
+    ensures { (T : Types) (state state' : StoreState) (volume volume' : Volume) (d : ℕ) (name : List ℕ) (to : ℕ) (new : List ℕ) → IsOpen T state volume →
+        IsOfDirectory (files_in state volume) d name → All (λ b. b < 256) new → RenameDoes T state state' volume volume' d name to new (Ok tt) →
+        IsOpen T state' volume' × IsRenamed state state' volume volume' d name to new }
+{
+    layout_is_known();
 }
 
 /// `link` makes one more name of a file or a symbolic link that has a link, which was free, and does nothing else: the inode has a link more.

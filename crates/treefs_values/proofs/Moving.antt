@@ -61,23 +61,25 @@ pub record Stands (content : ℕ → List ℕ) (top d : ℕ) (name : List ℕ) (
   pub block_is : block ≡ bucket_block content (block_numbered content top d) bucket
   pub offset_is : offset ≡ bucket_start bucket + record_of.offset
 
--- one that is found
+-- one that is found, which is live
 pub stands_found : (content : ℕ → List ℕ) (top d : ℕ) (name : List ℕ) (slot : Slot) → IsLayout → entry_found content top d name ≡ Ok slot →
-    Stands content top d name slot.block slot.offset
+    (s : Stands content top d name slot.block slot.offset) × (is_live s.record_of.entry ≡ true)
 stands_found content top d name slot known is =
-    let e = entry_is content top d name slot is in
-    record {
-      number = e.number;
-      there = e.there;
-      directory = e.directory;
-      bucket = e.bucket;
-      few = candidates_few known.high (name_hash (key_in content top) name) e.bucket e.candidate;
-      record_of = e.record_of;
-      of = e.slot_is.of.there;
-      named = e.slot_is.of.named;
-      block_is = e.slot_is.block;
-      offset_is = e.slot_is.offset;
-    }
+    let e = entry_is content top d name slot is in (
+      record {
+        number = e.number;
+        there = e.there;
+        directory = e.directory;
+        bucket = e.bucket;
+        few = candidates_few known.high (name_hash (key_in content top) name) e.bucket e.candidate;
+        record_of = e.record_of;
+        of = e.slot_is.of.there;
+        named = e.slot_is.of.named;
+        block_is = e.slot_is.block;
+        offset_is = e.slot_is.offset;
+      },
+      e.slot_is.of.live,
+    )
 
 -- where the directory has the same block, and its bucket the same records
 module _ (old new : ℕ → List ℕ) (top d : ℕ) (name : List ℕ) (block offset : ℕ) (s : Stands old top d name block offset) where
