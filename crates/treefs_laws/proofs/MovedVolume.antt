@@ -12,7 +12,7 @@ use Rattle.treefs_format.specs.declared.fields.Fields.{Fields}
 use Rattle.treefs_format.specs.declared.kind.Kind.{Kind}
 use Rattle.treefs_format.specs.declared.kind.Kind.TheVariants as kind
 use Rattle.treefs_model.specs.Changes.{less_links, lost, may_go, move_name, moved as moved_inode, moved_to, renamed, touched as touched_inode}
-use Rattle.treefs_model.specs.Files.{Content, Directory, Files, Inode, Names, and_then, changed_at, found, is_directory, number_in, renamed_in, with_name}
+use Rattle.treefs_model.specs.Files.{Content, Directory, Files, Inode, Names, and_then, changed_at, is_directory, number_in, renamed_in, with_name}
 use Rattle.treefs_model.specs.Reading.{content_at, files_of, inode_with, key_in, number_of}
 use Rattle.treefs_model.specs.declared.fault.Fault.{Fault}
 use Rattle.treefs_model.specs.declared.fault.Fault.TheVariants.{IsDir, NotDir, NotEmpty}

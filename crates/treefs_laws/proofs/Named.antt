@@ -123,8 +123,7 @@ module _ (T : Types) (fs node inode top : ℕ) (few : fs < 32) (tree : IsTree T 
         let b : ℕ = last_or_owner (reach (readable plan fs) c (steps made.leaf)).block (blocks_in zs) in
         let place = made_behind T fs node inode top known l.middle l.leafed d c key later.0 name made.leaf b m.candidate long l.last l.there l.zeros_are free in
         let done = one_record l.middle new (last_block (blocks_in zs)) 0 behind l.leafed later.0
-        (inl (subst (λ x. IsBehind (readable l.middle fs) key c name x 0) (sym l.last_is) place)) l.ran in
-        (
+        (inl (subst (λ x. IsBehind (readable l.middle fs) key c name x 0) (sym l.last_is) place)) l.ran in (
           done.0,
           done.1 ∙ ap (λ f. with_name f d name (led_to n)) l.files,
           (λ m some there. let one = l.all_names m some there in done.2 m some (λ z. there (sym one.block ∙ z)) ∙ one.block),
