@@ -25,4 +25,15 @@ mod Listing
 mod Committed
 mod Replaced
 mod TimesWritten
+mod Answering
 mod Refused
+mod RefusedNames
+mod Filled
+mod RefusedRemovals
+mod MovesPlanned
+mod RefusedMoves
+mod MovePlans
+mod MovedSteps
+mod MovedStore
+mod MovedFiles
+mod MovedVolume

@@ -1,17 +1,18 @@
 -- An inode is begun, gets its number, and a first name: what that makes of the store and of the files.
-use Rattle.std.proofs.Common.{◌≡◌, ◌≢◌, ℕ, ◌+◌, ◌-◌, ◌<◌, ◌≤◌, ◌^◌, List, [], ◌∷◌, ◌++◌, length, take, drop, None, Some, Ok, refl, sym, ◌∙◌, ap, inl, inr, subst, if◌then◌else◌}
+use Rattle.std.proofs.Common.{◌≡◌, ◌≢◌, ℕ, ◌+◌, ◌-◌, ◌<◌, ◌≤◌, ◌^◌, true, false, List, [], ◌∷◌, ◌++◌, length, take, drop, None, Some, Ok, refl, sym, ◌∙◌, ap, inl, inr, arith, subst, if◌then◌else◌}
 use Rattle.std.specs.Prelude.{All, Contains, IsTrue, slice_index, ◌==◌}
+use Rattle.std.proofs.lemmas.Bool.{eqb-false, eqb-true}
 use Rattle.std.proofs.lemmas.List.{append-nil}
 use Rattle.std.proofs.lemmas.List.Elements.{All-weaker}
 use Rattle.xn_model.specs.Types.{Types}
 use Rattle.xn_model.specs.Lives.{StoreState}
 use Rattle.treefs_format.specs.Buckets.{room_without}
 use Rattle.treefs_format.specs.Candidates.{candidates, name_hash}
-use Rattle.treefs_format.specs.Fields.{AreInRange}
+use Rattle.treefs_format.specs.Fields.{AreInRange, fields_of}
 use Rattle.treefs_format.specs.Inodes.{content_of, inode_bytes, kind_of}
 use Rattle.treefs_format.specs.Names.{is_name}
 use Rattle.treefs_format.specs.Paths.{leaf_count, steps}
-use Rattle.treefs_format.specs.Records.{Entry, end_of, entries_of}
+use Rattle.treefs_format.specs.Records.{Entry, Record, end_of, entries_of, is_live, records_of}
 use Rattle.treefs_format.specs.Templates.{IsTree}
 use Rattle.treefs_format.specs.declared.fields.Fields.{Fields}
 use Rattle.treefs_format.specs.declared.kind.Kind.{Kind}
@@ -26,14 +27,18 @@ use Rattle.treefs_edits.specs.Kinds.{rewritten_act}
 use Rattle.treefs_edits.specs.Missing.{last_or_owner, missing_path, node_acts, node_starts, path_acts, path_starts}
 use Rattle.treefs_edits.specs.declared.start.Start.{Start}
 use Rattle.treefs_name_plans.specs.Additions.{addition_acts, addition_starts, bucket_path, last_block, old_start, rewriting}
+use Rattle.treefs_name_plans.specs.Namings.{naming_block}
+use Rattle.treefs_name_plans.specs.RenamePlans.{bytes_before, old_offset, rewritten_offset, stands_in}
 use Rattle.treefs_name_plans.specs.declared.addition.Addition.{Addition}
 use Rattle.treefs_name_plans.specs.declared.addition.Addition.TheVariants.{Behind, Rewritten, Made}
+use Rattle.treefs_name_plans.specs.declared.naming.Naming.TheVariants.{Added}
+use Rattle.treefs_lookup.specs.declared.names.Slot.{Slot}
 use Rattle.treefs_values.specs.Attached.{new_content}
 use Rattle.treefs_values.specs.Kinds.{kinds}
 use Rattle.treefs_values.specs.KnownLayout.{IsLayout}
 use Rattle.treefs_values.specs.Values.{led_to}
 use Rattle.treefs_values.specs.Ways.{IsWay, block_numbered}
-use Rattle.treefs_values.proofs.ForCallers.{AreFree, AreNew, AreOf, IsAlike, IsAt, IsBehind, IsDirectoryAt, IsEdit, IsKeptInode, IsNew, IsOther, IsPlace, New, all_front, blocks_in, bucket_same, directory_names, directory_stays, edit_is, free_stays, inodes_stay, leafed_so, made_behind, new_kept, new_parts, place_stays, placed_files, placed_here, rewritten_behind, rewritten_directory, rewritten_files, rewritten_here, rewritten_inode, rewritten_keeps, rewritten_ways, tabled_so}
+use Rattle.treefs_values.proofs.ForCallers.{AreFree, AreNew, AreOf, IsAlike, IsAt, IsBehind, IsDirectoryAt, IsEdit, IsKeptInode, IsNew, IsOther, IsPlace, New, Stands, all_front, blocks_in, bucket_same, directory_names, directory_stays, edit_is, free_stays, inodes_stay, leafed_so, made_behind, new_kept, new_parts, place_stays, placed_files, placed_here, placed_keeps, rewritten_behind, rewritten_directory, rewritten_files, rewritten_here, rewritten_inode, rewritten_keeps, rewritten_ways, rewriting_numbered, rewriting_own, rewriting_stands, same_bucket, stands_names, tabled_so}
 use Rattle.treefs_laws.proofs.NewPlanned.{IsAddition, IsToMake}
 
 module _ (T : Types) (fs node inode top : ℕ) (few : fs < 32) (tree : IsTree T node inode) (known : IsLayout) (plan : StoreState) (d c : ℕ) (key name : List ℕ)
@@ -57,18 +62,25 @@ module _ (T : Types) (fs node inode top : ℕ) (few : fs < 32) (tree : IsTree T 
     abbrev entry : Entry
     entry = record { number = n; name = name }
 
-    abbrev pub IsNamed : StoreState → StoreState → Type 0
-    IsNamed old new = IsHere new × (files_of (readable new fs) top ≡ with_name (files_of (readable old fs) top) d name (led_to n))
+    -- by a record in a block, where no other record moves
+    abbrev pub IsNamed : ℕ → StoreState → StoreState → Type 0
+    IsNamed b old new = IsHere new × (files_of (readable new fs) top ≡ with_name (files_of (readable old fs) top) d name (led_to n))
+        × ((m : ℕ) → m ≢ 0 → block_numbered (readable old fs) top m ≢ 0 → block_numbered (readable new fs) top m ≡ block_numbered (readable old fs) top m)
+        × ((d' : ℕ) (name' : List ℕ) (block' offset' : ℕ) → Stands (readable old fs) top d' name' block' offset' → block' ≢ b →
+        Stands (readable new fs) top d' name' block' offset')
 
     one_record : (old new : StoreState) (block offset behind : ℕ) → IsHere old → Dir old → IsPlace (readable old fs) key c name block offset →
-        Ran T fs (record_act block offset entry (Some behind) ∷ []) old new (Ok tt) → IsNamed old new
+        Ran T fs (record_act block offset entry (Some behind) ∷ []) old new (Ok tt) → IsNamed block old new
     one_record old new block offset behind here dir place ran = elim ran [
       | inl none ↦ absurd none
       | inr r ↦
           let edit = edit_is T fs (record_act block offset entry (Some behind)) old r.1 r.0 here.store refl r.2 in
-          subst (IsNamed old) (sym r.3.1) (
+          let keeps = placed_keeps node inode top (kinds old fs) (readable old fs) here.volume known d c key dir name n n_few named range long (Some behind) block offset place in
+          subst (IsNamed block old) (sym r.3.1) (
             placed_here T fs node inode top known old here d c key dir r.1 name n n_few named range long (Some behind) block offset place edit,
             placed_files T fs node inode top known old here d c key dir r.1 name n n_few named range long (Some behind) block offset place edit,
+            (λ m some there. ap (λ x. block_numbered x top m) edit.reads ∙ keeps.0 m),
+            (λ d' name' block' offset' s ne. subst (λ x. Stands x top d' name' block' offset') (sym edit.reads) (keeps.1 d' name' block' offset' s ne)),
           )
     ]
 
@@ -92,7 +104,7 @@ module _ (T : Types) (fs node inode top : ℕ) (few : fs < 32) (tree : IsTree T 
     )
 
     pub addition_made : (addition : Addition) (old new : StoreState) (behind : ℕ) (zs : List New) → IsHere old → Dir old → IsReady old addition → Of (addition_starts addition) zs →
-        News old zs → Ran T fs (addition_acts addition (blocks_in zs) entry behind) old new (Ok tt) → IsNamed old new
+        News old zs → Ran T fs (addition_acts addition (blocks_in zs) entry behind) old new (Ok tt) → IsNamed (naming_block (Added addition) (blocks_in zs)) old new
     addition_made (Behind block offset) old new behind zs here dir ready of news ran = one_record old new block offset behind here dir ready ran
     addition_made (Rewritten bucket) old new behind zs here dir ready of news ran = one_record old new bucket.block bucket.offset behind here dir ready ran
     addition_made (Made made) old new behind zs here dir ready of news ran =
@@ -111,10 +123,49 @@ module _ (T : Types) (fs node inode top : ℕ) (few : fs < 32) (tree : IsTree T 
         let b : ℕ = last_or_owner (reach (readable plan fs) c (steps made.leaf)).block (blocks_in zs) in
         let place = made_behind T fs node inode top known l.middle l.leafed d c key later.0 name made.leaf b m.candidate long l.last l.there l.zeros_are free in
         let done = one_record l.middle new (last_block (blocks_in zs)) 0 behind l.leafed later.0
-        (inl (subst (λ x. IsBehind (readable l.middle fs) key c name x 0) (sym l.last_is) place)) l.ran in
-        (done.0, done.1 ∙ ap (λ f. with_name f d name (led_to n)) l.files)
+        (inl (subst (λ x. IsBehind (readable l.middle fs) key c name x 0) (sym l.last_is) place)) l.ran in (
+          done.0,
+          done.1 ∙ ap (λ f. with_name f d name (led_to n)) l.files,
+          (λ m some there. let one = l.all_names m some there in done.2 m some (λ z. there (sym one.block ∙ z)) ∙ one.block),
+          (λ d' name' block' offset' s ne. done.3 d' name' block' offset'
+              (stands_names (readable old fs) (readable l.middle fs) top d' name' block' offset' s (l.all_names d' s.number s.there)) ne),
+        )
 
     -- A bucket is rewritten first, where it has to be
+
+    place_left : (place a b offset : ℕ) → place ≡ a + offset → b ≡ a → place - b ≡ offset
+    place_left place a b offset is same = omega arith
+
+    -- the records of other blocks stay, and those of its own move
+    abbrev Rewrites : StoreState → StoreState → ℕ → ℕ → Type 0
+    Rewrites old new k x = ((m : ℕ) → block_numbered (readable new fs) top m ≡ block_numbered (readable old fs) top m)
+        × ((d' : ℕ) (name' : List ℕ) (block' offset' : ℕ) → Stands (readable old fs) top d' name' block' offset' → block' ≢ bucket_block (readable old fs) x k →
+        Stands (readable new fs) top d' name' block' offset')
+        × ((r : Record) → Contains (records_of (bucket_of (readable old fs) x k)) r → is_live r.entry ≡ true →
+        Stands (readable new fs) top d r.entry.name (bucket_block (readable old fs) x k)
+        (bucket_start k + (length (take r.offset (bucket_of (readable old fs) x k)) - room_without (take r.offset (bucket_of (readable old fs) x k)))))
+
+    records_rewritten : (old new : StoreState) → IsHere old → Dir old → (k : ℕ) → k ≤ leaf_count → 0 < end_of (bucket_of (readable old fs) c k) →
+        IsEdit T fs (rewritten_act (bucket_block (readable old fs) c k) (bucket_start k) (bucket_of (readable old fs) c k)) old new → Rewrites old new k c
+    records_rewritten old new here dir k k_few =
+        subst (λ x. 0 < end_of (bucket_of (readable old fs) x k) →
+        IsEdit T fs (rewritten_act (bucket_block (readable old fs) x k) (bucket_start k) (bucket_of (readable old fs) x k)) old new → Rewrites old new k x) dir.block own
+      where
+        own : 0 < end_of (bucket_of (readable old fs) (block_numbered (readable old fs) top d) k) →
+            IsEdit T fs (rewritten_act (bucket_block (readable old fs) (block_numbered (readable old fs) top d) k) (bucket_start k)
+            (bucket_of (readable old fs) (block_numbered (readable old fs) top d) k)) old new → Rewrites old new k (block_numbered (readable old fs) top d)
+        own full edit =
+            let there : block_numbered (readable old fs) top d ≢ 0 = λ z. dir.there (sym dir.block ∙ z) in
+            let one = subst (λ x. kind_of (fields_of (readable old fs x)).mode ≡ Some kind.Directory) (sym dir.block) dir.directory in (
+              (λ m. ap (λ x. block_numbered x top m) edit.reads
+                  ∙ rewriting_numbered node inode top (kinds old fs) (readable old fs) here.volume known d dir.number there k k_few one full m),
+              (λ d' name' block' offset' s ne. subst (λ x. Stands x top d' name' block' offset') (sym edit.reads)
+                  (rewriting_stands node inode top (kinds old fs) (readable old fs) here.volume known d dir.number there k k_few one full d' name' block' offset' s ne)),
+              (λ r has live. subst (λ x. Stands x top d r.entry.name (bucket_block (readable old fs) (block_numbered (readable old fs) top d) k)
+                  (bucket_start k + (length (take r.offset (bucket_of (readable old fs) (block_numbered (readable old fs) top d) k))
+                  - room_without (take r.offset (bucket_of (readable old fs) (block_numbered (readable old fs) top d) k))))) (sym edit.reads)
+                  (rewriting_own node inode top (kinds old fs) (readable old fs) here.volume known d dir.number there k k_few one full r has live)),
+            )
 
     pub record IsPrepared (addition : Addition) (rest : List Act) (old new : StoreState) : Type 0 where
       pub middle : StoreState
@@ -126,6 +177,12 @@ module _ (T : Types) (fs node inode top : ℕ) (few : fs < 32) (tree : IsTree T 
       pub keeps : (x : New) → IsNew node inode (kinds old fs) (readable old fs) top x → IsNew node inode (kinds middle fs) (readable middle fs) top x
       pub ways : (l : ℕ) (os : List ℕ) → IsWay os l → block_at (readable middle fs) top os ≡ block_at (readable old fs) top os
       pub inodes : (m : ℕ) → m ≢ d → m ≢ 0 → block_numbered (readable old fs) top m ≢ 0 → IsKeptInode (readable old fs) (readable middle fs) top m
+      pub numbered : (m : ℕ) → block_numbered (readable middle fs) top m ≡ block_numbered (readable old fs) top m
+      -- records of other blocks stay, and those of the block itself move
+      pub stands : (d' : ℕ) (name' : List ℕ) (block' offset' : ℕ) → Stands (readable old fs) top d' name' block' offset' → stands_in (Added addition) block' ≡ false →
+          Stands (readable middle fs) top d' name' block' offset'
+      pub moved : (slot : Slot) (name' : List ℕ) (s : Stands (readable old fs) top d name' slot.block slot.offset) → is_live s.record_of.entry ≡ true →
+          stands_in (Added addition) slot.block ≡ true → Stands (readable middle fs) top d name' slot.block (old_offset slot (Added addition))
 
     -- of the directory, since it was planned
     pub record StandsSince (s : StoreState) : Type 0 where
@@ -144,6 +201,9 @@ module _ (T : Types) (fs node inode top : ℕ) (few : fs < 32) (tree : IsTree T 
       keeps = λ x is_new. is_new;
       ways = λ l os way. refl;
       inodes = λ m ne some there. (inodes_stay (readable old fs) top).inodes m some there;
+      numbered = λ m. refl;
+      stands = λ d' name' block' offset' s apart. s;
+      moved = λ slot name' s live same. s;
     }
     prepared_so (Made made) rest old new here dir since is ran = record {
       middle = old;
@@ -160,6 +220,9 @@ module _ (T : Types) (fs node inode top : ℕ) (few : fs < 32) (tree : IsTree T 
       keeps = λ x is_new. is_new;
       ways = λ l os way. refl;
       inodes = λ m ne some there. (inodes_stay (readable old fs) top).inodes m some there;
+      numbered = λ m. refl;
+      stands = λ d' name' block' offset' s apart. s;
+      moved = λ slot name' s live same. s;
     }
     prepared_so (Rewritten bucket) rest old new here dir since is ran = elim ran [
       | inl none ↦ absurd none
@@ -179,6 +242,7 @@ module _ (T : Types) (fs node inode top : ℕ) (few : fs < 32) (tree : IsTree T 
           let first = edit_is T fs (rewritten_act bucket.block (old_start bucket) (drop (old_start bucket) bucket.bytes)) old r.1 r.0 here.store refl r.2 in
           let edit = subst (λ a. IsEdit T fs a old r.1) act_same first in
           let behind = rewritten_behind T fs node inode top known old here d c key dir r.1 k k_few full edit name is.candidate fits free in
+          let rw = records_rewritten old r.1 here dir k k_few full edit in
           record {
             middle = r.1;
             prepared = rewritten_here T fs node inode top known old here d c key dir r.1 k k_few full edit;
@@ -191,6 +255,23 @@ module _ (T : Types) (fs node inode top : ℕ) (few : fs < 32) (tree : IsTree T 
             keeps = rewritten_keeps T fs node inode top known old here d c key dir r.1 k k_few full edit;
             ways = rewritten_ways T fs node inode top known old here d c key dir r.1 k k_few full edit;
             inodes = rewritten_inode T fs node inode top known old here d c key dir r.1 k k_few full edit;
+            numbered = rw.0;
+            stands = λ d' name' block' offset' s apart.
+                rw.1 d' name' block' offset' s (λ e. eqb-false bucket.block block' apart (is.block_is ∙ (sym block_same ∙ sym e)));
+            moved = λ slot name' s live in_it.
+                let e : bucket.block ≡ slot.block = eqb-true bucket.block slot.block in_it in
+                let own_k : s.bucket ≡ k = (same_bucket node inode top (kinds old fs) (readable old fs) here.volume known d name' slot.block slot.offset s d k dir.number k_few
+                (sym e ∙ (is.block_is ∙ (sym block_same ∙ ap (λ x. bucket_block (readable old fs) x k) (sym dir.block))))).1 in
+                let there = subst (λ x. Contains (records_of (bucket_of (readable old fs) x k)) s.record_of) dir.block
+                (subst (λ j. Contains (records_of (bucket_of (readable old fs) (block_numbered (readable old fs) top d) j)) s.record_of) own_k s.of) in
+                let left : slot.offset - old_start bucket ≡ s.record_of.offset = place_left slot.offset (bucket_start s.bucket) (old_start bucket) s.record_of.offset s.offset_is
+                (is.start_is ∙ ap bucket_start (sym own_k)) in
+                let front : bytes_before bucket slot.offset ≡ take s.record_of.offset (bucket_of (readable old fs) c k) = (λ j. take (left j) ((is.bytes_are ∙ sym same) j)) in
+                let offset : bucket_start k + (length (take s.record_of.offset (bucket_of (readable old fs) c k)) - room_without (take s.record_of.offset (bucket_of (readable old fs) c k)))
+                ≡ old_offset slot (Added (Rewritten bucket)) =
+                sym (ap (λ t. if t then rewritten_offset bucket slot.offset else slot.offset) in_it ∙ (λ j. is.start_is j + (length (front j) - room_without (front j)))) in
+                let block : bucket_block (readable old fs) c k ≡ slot.block = block_same ∙ (sym is.block_is ∙ e) in
+                subst (λ (x : List ℕ × ℕ × ℕ). Stands (readable r.1 fs) top d x.0 x.1 x.2) (λ j. (s.named j, block j, offset j)) (rw.2 s.record_of there live);
           }
     ]
 

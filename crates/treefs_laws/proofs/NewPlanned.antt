@@ -368,7 +368,7 @@ module _ (state : StoreState) (tree : Tree) (memory : Memory) (d : ℕ) (name in
         plan_is = in_room_for 30 n directory end plan (sym e) ∙ ap (replacing_of n directory) end_is;
       }
 
-  written_end : (end : NameEnd) (ended : Ended) (other : Result (Option ℕ) Fault) →
+  pub written_end : (end : NameEnd) (ended : Ended) (other : Result (Option ℕ) Fault) →
       ◌≡◌ {A = Result NameEnd Fault} (Ok end) (and_then other (if_written state (name_end memory ended))) → end ≡ name_end memory ended
   written_end end ended (Err fault) e = absurd (cc e)
   written_end end ended (Ok None) e = same_done end (name_end memory ended) e

@@ -1,5 +1,5 @@
 -- What planners found, and what was carried out.
-use Rattle.std.proofs.Common.{◌≡◌, ℕ, ◌<◌, List, [], ◌∷◌, ◌++◌, Result, Ok, Err, refl, sym, ◌∙◌, ap, inl, inr, arith, subst}
+use Rattle.std.proofs.Common.{◌≡◌, ◌⊎◌, ℕ, ◌<◌, List, [], ◌∷◌, ◌++◌, Result, Ok, Err, refl, sym, ◌∙◌, ap, inl, inr, arith, subst}
 use Rattle.std.specs.Prelude.{length, map, slice_index, if◌then◌else◌}
 use Rattle.std.proofs.lemmas.Bool.{cases_eq, eq-eqb, ne_eqb}
 use Rattle.xn_model.specs.Types.{Types}
@@ -28,6 +28,23 @@ or_else x (Err fault) = x
 
 pub same_done : {A : Type 0} (x y : A) → ◌≡◌ {A = Result A Fault} (Ok x) (Ok y) → x ≡ y
 same_done x y e = ap (or_else x) e
+
+abbrev fault_of : {A : Type 0} → Fault → Result A Fault → Fault
+fault_of other (Ok x) = other
+fault_of other (Err fault) = fault
+
+pub same_fault : {A : Type 0} (f g : Fault) → ◌≡◌ {A = Result A Fault} (Err f) (Err g) → f ≡ g
+same_fault f g e = ap (fault_of g) e
+
+pub then_fails : {A B : Type 0} (first : Result A Fault) (go : A → Result B Fault) (g : Fault) → and_then first go ≡ Err g →
+    (first ≡ Err g) ⊎ ((x : A) × (first ≡ Ok x) × (go x ≡ Err g))
+then_fails (Ok x) go g e = inr (x, refl, e)
+then_fails (Err fault) go g e = inl (ap Err (same_fault fault g e))
+
+pub then_twice : {A B C : Type 0} (first : Result A Fault) (go : A → Result B Fault) (on : B → Result C Fault) →
+    and_then (and_then first go) on ≡ and_then first (λ x. and_then (go x) on)
+then_twice (Ok x) go on = refl
+then_twice (Err fault) go on = refl
 
 -- What was carried out
 

@@ -36,15 +36,9 @@ use Rattle.treefs_values.proofs.ForCallers.{inodes_found, numbers_found}
 use Rattle.treefs_laws.specs.Kept.{files_in}
 use Rattle.treefs_laws.specs.Refusals.{IsWant}
 use Rattle.treefs_laws.specs.Seen.{seen_files, seen_inode}
+use Rattle.treefs_laws.proofs.Planned.{same_fault}
 use Rattle.treefs_laws.proofs.Seeing.{found_seen, number_seen}
 use Rattle.treefs_laws.proofs.TimesWritten.{refused_whole}
-
-abbrev fault_of : {A : Type 0} → Fault → Result A Fault → Fault
-fault_of other (Ok x) = other
-fault_of other (Err fault) = fault
-
-same_fault : {A : Type 0} (f g : Fault) → ◌≡◌ {A = Result A Fault} (Err f) (Err g) → f ≡ g
-same_fault f g e = ap (fault_of g) e
 
 found_none : (touched : List Touched) (files : Files) (n : ℕ) (fault : Fault) → found files n ≡ Err fault → found (seen_files touched files) n ≡ Err fault
 unfolding seen_files
@@ -63,7 +57,7 @@ refused_reason T fs acts old new fault does = elim does [
   | inr r ↦ inr (r.3.1, r.3.2)
 ]
 
-full_or : {A : Type 0} (b : Bool) (x : A) (fault : Fault) → ◌≡◌ {A = Result A Fault} (if b then Ok x else Err Full) (Err fault) → fault ≡ Full
+pub full_or : {A : Type 0} (b : Bool) (x : A) (fault : Fault) → ◌≡◌ {A = Result A Fault} (if b then Ok x else Err Full) (Err fault) → fault ≡ Full
 full_or true x fault e = absurd (cc e)
 full_or false x fault e = sym (same_fault Full fault e)
 

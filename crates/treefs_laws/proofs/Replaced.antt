@@ -64,7 +64,7 @@ use Rattle.treefs_laws.proofs.Unlinked.{not_directory}
 -- What becomes of the files
 
 -- two inodes change, in either order
-swapped : (files : Files) (m d : ℕ) (g h : Inode → Inode) → m ≢ d → changed_at (changed_at files m g) d h ≡ changed_at (changed_at files d h) m g
+pub swapped : (files : Files) (m d : ℕ) (g h : Inode → Inode) → m ≢ d → changed_at (changed_at files m g) d h ≡ changed_at (changed_at files d h) m g
 swapped files m d g h ne = λ j k. at k j
   where
     own : changed_at files m g d ≡ files d

@@ -6,3 +6,4 @@ pub mod Reading
 pub mod Begun
 pub mod Setting
 pub mod Refusals
+pub mod Moved

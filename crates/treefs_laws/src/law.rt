@@ -7,7 +7,7 @@ ghost use Rattle.xn_model.specs.Lives.{StoreState};
 ghost use Rattle.store_types.specs.declared.refusal.Refusal.{Refusal};
 ghost use Rattle.treefs_format.specs.declared.kind.Kind.{Kind};
 ghost use Rattle.treefs_format.specs.declared.kind.Kind.TheVariants as kinds;
-ghost use Rattle.treefs_model.specs.Changes.{IsListing, linked, read, removed, replaced, target, unlinked, with_mtime};
+ghost use Rattle.treefs_model.specs.Changes.{IsListing, linked, new_name, read, removed, replaced, target, unlinked, with_mtime};
 ghost use Rattle.treefs_model.specs.Files.{Directory, File, Inode, Names, SymbolicLink, and_then, changed_at, found, number_in};
 ghost use Rattle.treefs_model.specs.declared.fault.Fault.{Fault};
 ghost use Rattle.treefs_model.specs.declared.fault.Fault.TheVariants.{Full, Kernel};
@@ -20,6 +20,7 @@ ghost use Rattle.treefs.specs.Committing.{CommitDoes};
 ghost use Rattle.treefs.specs.Creating.{BeginDoes, CreateDoes, MkdirDoes, SymlinkDoes};
 ghost use Rattle.treefs.specs.Linking.{LinkDoes};
 ghost use Rattle.treefs.specs.Reads.{lookup_of, stat_of};
+ghost use Rattle.treefs.specs.Renaming.{RenameDoes};
 ghost use Rattle.treefs.specs.Setting.{AttributesDoes, MtimeDoes};
 ghost use Rattle.treefs.specs.Unlinking.{RmdirDoes, UnlinkDoes};
 ghost use Rattle.treefs.specs.WritingTimes.{WriteTimesDoes};
@@ -31,9 +32,10 @@ ghost use Rattle.treefs_byte_plans.specs.declared.attributes.Attributes.{Attribu
 ghost use Rattle.treefs_laws.specs.Begun.{IsBegun};
 ghost use Rattle.treefs_laws.specs.Kept.{HasNoNames, IsKept, files_in};
 ghost use Rattle.treefs_laws.specs.Making.{FitsAttributes, MakesInode, new_inode};
+ghost use Rattle.treefs_laws.specs.Moved.{IsOfDirectory, IsRenamed};
 ghost use Rattle.treefs_laws.specs.Open.{IsOpen};
 ghost use Rattle.treefs_laws.specs.Reading.{AreAnswered, HasFewBytes, listed_by, read_bytes};
-ghost use Rattle.treefs_laws.specs.Refusals.{IsWant};
+ghost use Rattle.treefs_laws.specs.Refusals.{IsNoNumber, IsNoPlace, IsNotMoved, IsNotRemoved, IsRefused, IsWant};
 ghost use Rattle.treefs_laws.specs.Setting.{AreInWidth, with_attributes};
 
 use treefs_format::law::modes_are_read_back;
@@ -141,6 +143,16 @@ pub fn mkdir_makes_a_directory()
     modes_are_read_back();
 }
 
+/// `rename` moves a name, and does nothing else: what had the new name, if something other had, loses a link, and a directory stands where its new name is.
+/// Where both names lead to one inode nothing is done. Told is that no directory stands in itself, and where the one stands that moves.
+pub fn rename_moves_a_name()
+    ensures { (T : Types) (state state' : StoreState) (volume volume' : Volume) (d : ℕ) (name : List ℕ) (to : ℕ) (new : List ℕ) → IsOpen T state volume →
+        IsOfDirectory (files_in state volume) d name → All (λ b. b < 256) new → RenameDoes T state state' volume volume' d name to new (Ok tt) →
+        IsOpen T state' volume' × IsRenamed state state' volume volume' d name to new }
+{
+    layout_is_known();
+}
+
 /// `link` makes one more name of a file or a symbolic link that has a link, which was free, and does nothing else: the inode has a link more.
 pub fn link_makes_a_name()
     ensures { (T : Types) (state state' : StoreState) (volume volume' : Volume) (n d : ℕ) (name : List ℕ) → IsOpen T state volume → All (λ b. b < 256) name →
@@ -209,6 +221,56 @@ pub fn refused_unlink_answers_the_files()
         × (((state' ≡ state) × ((unlinked (files_in state volume) volume.memory.clock d name ≡ Err fault) ⊎ (fault ≡ Full)))
         ⊎ ((reason : Refusal) × (fault ≡ Kernel reason))) }
 {}
+
+/// `create`, `symlink` and `mkdir` that are refused leave the session as it was, and answer what the files say of the name, or that there is no room, place
+/// or number, and then all is as it was; or they answer the store's refusal.
+pub fn refused_new_inodes_answer_the_files()
+    ensures create { (T : Types) (state state' : StoreState) (volume volume' : Volume) (d : ℕ) (name : List ℕ) (attributes : NewAttributes) (fault : Fault) →
+        CreateDoes T state state' volume volume' d name attributes (Err fault) →
+        IsRefused state state' volume volume' fault ((new_name (files_in state volume) d name ≡ Err fault) ⊎ IsNoNumber fault) }
+    ensures symlink { (T : Types) (state state' : StoreState) (volume volume' : Volume) (d : ℕ) (name : List ℕ) (attributes : NewAttributes)
+        (target : List ℕ) (fault : Fault) → SymlinkDoes T state state' volume volume' d name attributes target (Err fault) →
+        IsRefused state state' volume volume' fault ((new_name (files_in state volume) d name ≡ Err fault) ⊎ IsNoNumber fault) }
+    ensures mkdir { (T : Types) (state state' : StoreState) (volume volume' : Volume) (d : ℕ) (name : List ℕ) (attributes : NewAttributes) (fault : Fault) →
+        MkdirDoes T state state' volume volume' d name attributes (Err fault) →
+        IsRefused state state' volume volume' fault ((new_name (files_in state volume) d name ≡ Err fault) ⊎ IsNoNumber fault) }
+{}
+
+/// So it is with `link`.
+pub fn refused_link_answers_the_files()
+    ensures { (T : Types) (state state' : StoreState) (volume volume' : Volume) (n d : ℕ) (name : List ℕ) (fault : Fault) →
+        LinkDoes T state state' volume volume' n d name (Err fault) →
+        IsRefused state state' volume volume' fault ((linked (files_in state volume) volume.memory.clock n d name ≡ Err fault) ⊎ IsNoPlace fault) }
+{}
+
+/// So it is with `commit`, where nothing is to be replaced, and where it may replace.
+pub fn refused_commit_answers_the_files()
+    ensures named { (T : Types) (state state' : StoreState) (volume volume' : Volume) (block d : ℕ) (name : List ℕ) (fault : Fault) →
+        CommitDoes T state state' volume volume' block d name false (Err fault) →
+        IsRefused state state' volume volume' fault ((new_name (files_in state volume) d name ≡ Err fault) ⊎ IsNoNumber fault) }
+    ensures replaced { (T : Types) (state state' : StoreState) (volume volume' : Volume) (block d : ℕ) (name : List ℕ) (fault : Fault) →
+        CommitDoes T state state' volume volume' block d name true (Err fault) →
+        IsRefused state state' volume volume' fault
+        (((n : ℕ) (inode : Inode) → replaced (files_in state volume) volume.memory.clock d name n inode ≡ Err fault) ⊎ IsNoNumber fault) }
+{}
+
+/// So it is with `rmdir`; where it answers that the directory is not empty a name stands there.
+pub fn refused_rmdir_answers_the_files()
+    ensures { (T : Types) (state state' : StoreState) (volume volume' : Volume) (d : ℕ) (name : List ℕ) (fault : Fault) → IsKept T state volume →
+        RmdirDoes T state state' volume volume' d name (Err fault) →
+        IsRefused state state' volume volume' fault (IsNotRemoved (files_in state volume) volume.memory.clock d name fault ⊎ (fault ≡ Full)) }
+{
+    layout_is_known();
+}
+
+/// So it is with `rename`. A directory that would stand below itself is refused by what the inodes say of the directories above the new place.
+pub fn refused_rename_answers_the_files()
+    ensures { (T : Types) (state state' : StoreState) (volume volume' : Volume) (d : ℕ) (name : List ℕ) (to : ℕ) (new : List ℕ) (fault : Fault) →
+        IsKept T state volume → RenameDoes T state state' volume volume' d name to new (Err fault) →
+        IsRefused state state' volume volume' fault (IsNotMoved state volume d name to new fault ⊎ IsNoPlace fault) }
+{
+    layout_is_known();
+}
 
 /// An open volume is one still once `set_mtime`, `set_attributes`, `unlink` or `rmdir` is done.
 pub fn open_volumes_stay_open()

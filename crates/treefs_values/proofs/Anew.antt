@@ -40,7 +40,7 @@ put_deep m bs n at within =
     ∙ (ap (λ l. l ++ drop (at + length bs) (drop n m)) (append_assoc (take n m) (take at (drop n m)) bs)
     ∙ append_assoc (take n m) (take at (drop n m) ++ bs) (drop (at + length bs) (drop n m)))
 
-no_entries : (m : List ℕ) (r : Record) → m ≡ [] → Contains (records_of m) r → ⊥
+pub no_entries : (m : List ℕ) (r : Record) → m ≡ [] → Contains (records_of m) r → ⊥
 no_entries m r none has = Contains-none r (subst (λ es. Contains (placed 0 es) r) (no_length [] refl) (subst (λ m. Contains (records_of m) r) none has))
 
 module _ (node inode top : ℕ) (type : ℕ → ℕ) (old : ℕ → List ℕ) (v : IsVolume node inode type old top) (f : IsLayout)
@@ -89,7 +89,7 @@ module _ (node inode top : ℕ) (type : ℕ → ℕ) (old : ℕ → List ℕ) (v
       ]
 
   module _ (short : now < 2 ^ 32) (directory : kind_of (fields_of (old c)).mode ≡ Some kind.Directory) where
-    made_as_set : made_so ≡ set_so
+    pub made_as_set : made_so ≡ set_so
     made_as_set = fun_ext (λ b. elim (cases_eq b (bucket_block old c k)) [
       | inl is ↦
           written_here (record_act (bucket_block old c k) (bucket_start k + r.offset) entry behind) old b is

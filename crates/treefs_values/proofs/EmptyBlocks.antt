@@ -283,6 +283,7 @@ module _ (node inode top : ℕ) (type : ℕ → ℕ) (old new : ℕ → List ℕ
       block = block_same m;
       fields = own_fields m there;
       entries = λ k. bucket_entries_same m k m_some there;
+      leaves = λ i some. elim (grown m 0 (steps i) (steps_way i)) [ inl same ↦ same | inr led ↦ absurd (some led.0) ];
     }
 
     -- of the table: all inodes stay

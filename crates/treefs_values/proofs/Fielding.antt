@@ -23,6 +23,7 @@ use Rattle.treefs_values.proofs.Pending.{IsNew, New, inode_other, new_written}
 use Rattle.treefs_values.proofs.Putting.{written_other}
 use Rattle.treefs_values.proofs.Standing.{IsKeptInode}
 use Rattle.treefs_values.proofs.Walks.{IsAt, IsEdit}
+use Rattle.treefs_values.proofs.Ways.{numbered_same}
 
 module _ (T : Types) (fs node inode top : ℕ) (known : IsLayout) (old new : StoreState) (here : IsAt T fs node inode top old) (n : ℕ) (number : n ≢ 0)
     (there : block_numbered (readable old fs) top n ≢ 0) (changes : List (List Change)) (fine : All AreChanges changes) (behind : Option ℕ)
@@ -44,6 +45,11 @@ module _ (T : Types) (fs node inode top : ℕ) (known : IsLayout) (old new : Sto
   pub fields_inode : (m : ℕ) → m ≢ n → m ≢ 0 → block_numbered (readable old fs) top m ≢ 0 → IsKeptInode (readable old fs) (readable new fs) top m
   fields_inode m ne some m_there = subst (λ c. IsKeptInode content c top m) (sym edit.reads)
       (changes_inode node inode top (kinds old fs) content v known n number there changes fine behind m ne some m_there)
+
+  pub fields_numbered : (m : ℕ) → block_numbered (readable new fs) top m ≡ block_numbered (readable old fs) top m
+  fields_numbered m = ap (λ c. block_numbered c top m) edit.reads
+      ∙ numbered_same node inode top (kinds old fs) content (written (changes_act (block_numbered content top n) changes behind) content) v.typed
+      (changes_keep node inode top (kinds old fs) content v known n number there changes fine behind) m
 
   pub fields_key : key_in (readable new fs) top ≡ key_in (readable old fs) top
   fields_key = ap (λ c. key_in c top) edit.reads ∙ changes_key node inode top (kinds old fs) content v known n number there changes fine behind

@@ -21,8 +21,10 @@ pub use Rattle.treefs_values.proofs.Standing.{IsKeptInode, KeepsInodes, KeepsNam
 pub use Rattle.treefs_values.proofs.Pending.{AreNew, IsNew, IsOther, New, all_front, new_kept, new_parts}
 pub use Rattle.treefs_values.proofs.Walks.{AreBegun, AreOf, IsAt, IsEdit, IsFineStart, begun_so, edit_is, of_long, of_parts, ran_parts}
 pub use Rattle.treefs_values.proofs.Chains.{blocks_in}
-pub use Rattle.treefs_values.proofs.Placing.{AreFree, IsBehind, IsDirectoryAt, IsOwn, IsPlace, directory_kept, directory_names, directory_stays, free_stays, made_behind, place_stays, placed_files, placed_here}
+pub use Rattle.treefs_values.proofs.Placing.{AreFree, IsBehind, IsDirectoryAt, IsOwn, IsPlace, directory_kept, directory_names, directory_stays, free_stays, made_behind, place_stays, placed_files, placed_here, placed_so}
 pub use Rattle.treefs_values.proofs.Placing.{rewritten_behind, rewritten_directory, rewritten_files, rewritten_here, rewritten_inode, rewritten_keeps, rewritten_ways}
 pub use Rattle.treefs_values.proofs.Tabled.{IsLeafed, IsTabled, leafed_so, tabled_so}
-pub use Rattle.treefs_values.proofs.Fielding.{fields_files, fields_here, fields_inode, fields_keep, fields_key}
+pub use Rattle.treefs_values.proofs.Fielding.{fields_files, fields_here, fields_inode, fields_keep, fields_key, fields_numbered}
 pub use Rattle.treefs_values.proofs.FoundStill.{entry_still, found_still}
+pub use Rattle.treefs_values.proofs.Moving.{Stands, same_bucket, stands_alike, stands_found, stands_names, stands_other, stands_there}
+pub use Rattle.treefs_values.proofs.Moving.{placed_keeps, rewriting_numbered, rewriting_own, rewriting_stands, set_beside, set_directory, set_files, set_numbered, set_others, set_place, set_volume, written_twice}

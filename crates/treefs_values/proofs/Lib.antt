@@ -41,3 +41,4 @@ pub mod FoundStill
 pub mod Tabled
 pub mod EmptyBlocks
 pub mod ForCallers
+mod Moving

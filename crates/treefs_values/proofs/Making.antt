@@ -55,10 +55,10 @@ module _ (node inode top : ℕ) (type : ℕ → ℕ) (old : ℕ → List ℕ) (v
   long : length (entry_bytes e) ≡ 5 + length e.name
   long = let parts = length-append (to_le_bytes w32 e.number) (length e.name ∷ e.name) in let four = (four_bytes e.number).0 in omega arith
 
-  small : All (λ b. b < 256) (entry_bytes e)
+  pub small : All (λ b. b < 256) (entry_bytes e)
   small = All-append IsByte (to_le_bytes w32 e.number) (length e.name ∷ e.name) (four_bytes e.number).1 (All-cons IsByte (length e.name) e.name length_short range)
 
-  put_in : IsPut node inode top type old v f n number there (entry_bytes e) small at behind k
+  pub put_in : IsPut node inode top type old v f n number there (entry_bytes e) small at behind k
   put_in = is_put node inode top type old v f n number there (entry_bytes e) small at behind (let l = long in omega arith) k few
       (let l = long in let within = f.within (bucket_of old c k) in omega arith)
 

@@ -83,7 +83,7 @@ module _ (node inode top : ℕ) (type : ℕ → ℕ) (old : ℕ → List ℕ) (v
     abbrev new : ℕ → List ℕ
     new = written (number_act (bucket_block old c k) (bucket_start k + r.offset) now behind) old
 
-    fits : r.offset + length bytes ≤ length (bucket_of old c k)
+    pub fits : r.offset + length bytes ≤ length (bucket_of old c k)
     fits =
         let s = split_at (entries_of (bucket_of old c k)) 0 r has in
         let at = s.there in
@@ -92,26 +92,26 @@ module _ (node inode top : ℕ) (type : ℕ → ℕ) (old : ℕ → List ℕ) (v
         let four = (four_bytes now).0 in
         omega arith
 
-    put_in : IsPut node inode top type old v f n number there bytes (four_bytes now).1 r.offset behind k
+    pub put_in : IsPut node inode top type old v f n number there bytes (four_bytes now).1 r.offset behind k
     put_in = is_put node inode top type old v f n number there bytes (four_bytes now).1 r.offset behind (let four = (four_bytes now).0 in omega arith) k few fits
 
-    entries_set : Renumbered (bucket_of old c k) r now
+    pub entries_set : Renumbered (bucket_of old c k) r now
     entries_set = renumbered_entries (bucket_of old c k) r now bucket_bytes has short
 
-    old_is : bucket_entries old c k ≡ entries_set.before ++ r.entry ∷ entries_set.behind
+    pub old_is : bucket_entries old c k ≡ entries_set.before ++ r.entry ∷ entries_set.behind
     old_is = entries_set.old
 
-    new_is : bucket_entries new c k ≡ entries_set.before ++ record { number = now; name = r.entry.name } ∷ entries_set.behind
+    pub new_is : bucket_entries new c k ≡ entries_set.before ++ record { number = now; name = r.entry.name } ∷ entries_set.behind
     new_is = ap entries_of put_in.bucket ∙ entries_set.new
 
-    others : (j : ℕ) → j ≤ leaf_count → j ≢ k → bucket_entries new c j ≡ bucket_entries old c j
+    pub others : (j : ℕ) → j ≤ leaf_count → j ≢ k → bucket_entries new c j ≡ bucket_entries old c j
     others j few' ne = ap entries_of (put_in.others j few' ne)
 
     module _ (directory : kind_of (fields_of (old c)).mode ≡ Some kind.Directory) where
       was : IsDirectory old key c
       was = v.directories n number there directory
 
-      has_same_name : (j : ℕ) (name : List ℕ) → j ≤ leaf_count → has_name (bucket_entries new c j) name ≡ has_name (bucket_entries old c j) name
+      pub has_same_name : (j : ℕ) (name : List ℕ) → j ≤ leaf_count → has_name (bucket_entries new c j) name ≡ has_name (bucket_entries old c j) name
       has_same_name = has_same old new c k few was.names entries_set.before entries_set.behind r.entry.name r.entry.number now old_is new_is others
 
       directory_set : IsDirectory new key c

@@ -144,6 +144,46 @@ module _ (old new : ℕ → List ℕ) (key : List ℕ) (c : ℕ) (name : List �
 
 -- The record is made there
 
+module _ (node inode top : ℕ) (type : ℕ → ℕ) (content : ℕ → List ℕ) (v : IsVolume node inode type content top) (known : IsLayout) (d c : ℕ) (key : List ℕ)
+    (at : IsDirectoryAt content top d c key) (name : List ℕ) (number : ℕ) (short : number < 2 ^ 32) (named : IsTrue (is_name name)) (range : All (λ b. b < 256) name)
+    (long : length name < 256) (behind : Option ℕ) (block offset : ℕ) where
+  abbrev in_block : ℕ
+  in_block = block_numbered content top d
+
+  abbrev Said : Act → Type 0
+  Said act = IsVolume node inode type (written act content) top × (files_of (written act content) top ≡ with_name (files_of content top) d name (led_to number))
+
+  abbrev e : Entry
+  e = record { number = number; name = name }
+
+  is_some_block : in_block ≢ 0
+  is_some_block z = at.there (sym at.block ∙ z)
+
+  is_one : kind_of (fields_of (content in_block)).mode ≡ Some kind.Directory
+  is_one = subst (λ x. kind_of (fields_of (content x)).mode ≡ Some kind.Directory) (sym at.block) at.directory
+
+  few_for : (k : ℕ) → Contains (candidates (name_hash (key_in content top) name)) k → k ≤ leaf_count
+  few_for k has = candidates_few known.high (name_hash (key_in content top) name) k has
+
+  by_place : IsPlace content (key_in content top) in_block name block offset → Said (record_act block offset e behind)
+  by_place (inl p) = subst Said (λ j. record_act (sym p.block_is j) (sym p.offset_is j) e behind) (
+    volume_made node inode top type content v known d at.number is_some_block p.bucket (few_for p.bucket p.candidate) e short named range long p.room behind is_one p.candidate p.none,
+    files_made node inode top type content v known d at.number is_some_block p.bucket (few_for p.bucket p.candidate) e short named range long p.room behind is_one p.candidate p.none,
+  )
+  by_place (inr p) =
+      subst Said (λ j. record_act (sym p.block_is j) (sym p.offset_is j) (record { number = number; name = p.named j }) behind) (
+        volume_anew node inode top type content v known d at.number is_some_block p.bucket (few_for p.bucket p.candidate) p.record_of p.there number behind short is_one,
+        files_anew node inode top type content v known d at.number is_some_block p.bucket (few_for p.bucket p.candidate) p.record_of p.there number behind short is_one
+            ∙ ap (λ x. with_name (files_of content top) d x (led_to number)) p.named,
+      )
+
+  pub placed_so : IsPlace content key c name block offset →
+      IsVolume node inode type (written (record_act block offset (record { number = number; name = name }) behind) content) top
+      × (files_of (written (record_act block offset (record { number = number; name = name }) behind) content) top ≡ with_name (files_of content top) d name (led_to number))
+  placed_so place = by_place (subst (λ k. IsPlace content k in_block name block offset) (sym at.key_is) (subst (λ x. IsPlace content key x name block offset) (sym at.block) place))
+
+-- in a state of the store
+
 module _ (T : Types) (fs node inode top : ℕ) (known : IsLayout) (old : StoreState) (here : IsAt T fs node inode top old) (d c : ℕ) (key : List ℕ)
     (at : IsDirectoryAt (readable old fs) top d c key) where
   abbrev content : ℕ → List ℕ
@@ -167,30 +207,11 @@ module _ (T : Types) (fs node inode top : ℕ) (known : IsLayout) (old : StoreSt
   module _ (new : StoreState) (name : List ℕ) (number : ℕ) (short : number < 2 ^ 32) (named : IsTrue (is_name name)) (range : All (λ b. b < 256) name)
       (long : length name < 256) (behind : Option ℕ) (block offset : ℕ) (place : IsPlace (readable old fs) key c name block offset)
       (edit : IsEdit T fs (record_act block offset (record { number = number; name = name }) behind) old new) where
-    abbrev Said : Act → Type 0
-    Said act = IsVolume node inode (kinds old fs) (written act content) top × (files_of (written act content) top ≡ with_name (files_of content top) d name (led_to number))
+    abbrev made_act : Act
+    made_act = record_act block offset (record { number = number; name = name }) behind
 
-    abbrev e : Entry
-    e = record { number = number; name = name }
-
-    by_place : (place : IsPlace content (key_in content top) c' name block offset) → Said (record_act block offset e behind)
-    by_place (inl p) = subst Said (λ j. record_act (sym p.block_is j) (sym p.offset_is j) e behind) (
-      volume_made node inode top (kinds old fs) content v known d at.number some p.bucket (few' p.bucket p.candidate) e short named range long p.room behind is_directory p.candidate p.none,
-      files_made node inode top (kinds old fs) content v known d at.number some p.bucket (few' p.bucket p.candidate) e short named range long p.room behind is_directory p.candidate p.none,
-    )
-      where
-        few' : (k : ℕ) → Contains (candidates (name_hash (key_in content top) name)) k → k ≤ leaf_count
-        few' k has = candidates_few known.high (name_hash (key_in content top) name) k has
-    by_place (inr p) =
-        let few' = candidates_few known.high (name_hash (key_in content top) name) p.bucket p.candidate in
-        subst Said (λ j. record_act (sym p.block_is j) (sym p.offset_is j) (record { number = number; name = p.named j }) behind) (
-          volume_anew node inode top (kinds old fs) content v known d at.number some p.bucket few' p.record_of p.there number behind short is_directory,
-          files_anew node inode top (kinds old fs) content v known d at.number some p.bucket few' p.record_of p.there number behind short is_directory
-              ∙ ap (λ x. with_name (files_of content top) d x (led_to number)) p.named,
-        )
-
-    said : Said (record_act block offset e behind)
-    said = by_place (subst (λ k. IsPlace content k c' name block offset) (sym at.key_is) (subst (λ x. IsPlace content key x name block offset) (sym at.block) place))
+    said : IsVolume node inode (kinds old fs) (written made_act content) top × (files_of (written made_act content) top ≡ with_name (files_of content top) d name (led_to number))
+    said = placed_so node inode top (kinds old fs) content v known d c key at name number short named range long behind block offset place
 
     pub placed_here : IsAt T fs node inode top new
     placed_here = record {

@@ -1,7 +1,7 @@
 -- Inodes that an edit leaves as they are, and directories that have the same records then.
 use Rattle.std.proofs.Common.{◌≡◌, ◌≢◌, ℕ, List, refl, sym, ◌∙◌, ap, subst}
 use Rattle.treefs_format.specs.Fields.{fields_of}
-use Rattle.treefs_model.specs.Reading.{block_at, key_in}
+use Rattle.treefs_model.specs.Reading.{block_at, key_in, leaf_block}
 use Rattle.treefs_values.specs.Names.{bucket_entries}
 use Rattle.treefs_values.specs.Ways.{IsWay, block_numbered}
 use Rattle.treefs_values.proofs.Alike.{IsAlike}
@@ -22,6 +22,8 @@ pub record KeepsNames (old new : ℕ → List ℕ) (top n : ℕ) : Type 0 where
   pub block : block_numbered new top n ≡ block_numbered old top n
   pub fields : fields_of (new (block_numbered old top n)) ≡ fields_of (old (block_numbered old top n))
   pub entries : (k : ℕ) → bucket_entries new (block_numbered old top n) k ≡ bucket_entries old (block_numbered old top n) k
+  -- and the leaves that are there
+  pub leaves : (i : ℕ) → leaf_block old (block_numbered old top n) i ≢ 0 → leaf_block new (block_numbered old top n) i ≡ leaf_block old (block_numbered old top n) i
 
 alike_then : (old middle new : ℕ → List ℕ) (c : ℕ) → IsAlike old middle c → IsAlike middle new c → IsAlike old new c
 alike_then old middle new c a b = record {
@@ -56,7 +58,7 @@ inodes_stay content top = record {
 }
 
 pub names_stay : (content : ℕ → List ℕ) (top n : ℕ) → KeepsNames content content top n
-names_stay content top n = record { key = refl; block = refl; fields = refl; entries = λ k. refl }
+names_stay content top n = record { key = refl; block = refl; fields = refl; entries = λ k. refl; leaves = λ i there. refl }
 
 pub names_then : (old middle new : ℕ → List ℕ) (top n : ℕ) → KeepsNames old middle top n → KeepsNames middle new top n → KeepsNames old new top n
 names_then old middle new top n a b = record {
@@ -64,4 +66,7 @@ names_then old middle new top n a b = record {
   block = b.block ∙ a.block;
   fields = subst (λ c. fields_of (new c) ≡ fields_of (middle c)) a.block b.fields ∙ a.fields;
   entries = λ k. subst (λ c. bucket_entries new c k ≡ bucket_entries middle c k) a.block (b.entries k) ∙ a.entries k;
+  leaves = λ i there.
+      let first = a.leaves i there in
+      subst (λ c. leaf_block middle c i ≢ 0 → leaf_block new c i ≡ leaf_block middle c i) a.block (b.leaves i) (λ z. there (sym first ∙ z)) ∙ first;
 }

@@ -296,6 +296,7 @@ module _ (T : Types) (fs node inode top : ℕ) (few : fs < 32) (tree : IsTree T 
       pub ran : Ran T fs rest middle new (Ok tt)
       pub files : files_of (readable middle fs) top ≡ files_of (readable old fs) top
       pub names : KeepsNames (readable old fs) (readable middle fs) top d
+      pub all_names : (n : ℕ) → n ≢ 0 → block_numbered (readable old fs) top n ≢ 0 → KeepsNames (readable old fs) (readable middle fs) top n
       pub last : last_or_owner leaf_owner (blocks_in xs) ≡ leaf_block (readable middle fs) c leaf
       pub there : last_or_owner leaf_owner (blocks_in xs) ≢ 0
       pub last_is : slice_index (blocks_in xs) (length (blocks_in xs) - 1) ≡ last_or_owner leaf_owner (blocks_in xs)
@@ -344,6 +345,7 @@ module _ (T : Types) (fs node inode top : ℕ) (few : fs < 32) (tree : IsTree T 
             ran = ch.ran;
             files = ch.files;
             names = names;
+            all_names = ch.names;
             last = ch.last ∙ ((λ j. block_at (readable ch.middle fs) ((names.block ∙ block) j) (reached q links))
                 ∙ ap (block_at (readable ch.middle fs) c) (path_reached node q all ∙ onto_all));
             there = ch.there;
