@@ -236,14 +236,16 @@ pub fn refused_new_inodes_answer_the_files()
         IsRefused state state' volume volume' fault ((new_name (files_in state volume) d name ≡ Err fault) ⊎ IsNoNumber fault) }
 {}
 
-/// So it is with `link`.
+/// `link` that is refused leaves the session as it was, and answers what the files say, or that there is no room or place, and then all is as it was; or it
+/// answers the store's refusal.
 pub fn refused_link_answers_the_files()
     ensures { (T : Types) (state state' : StoreState) (volume volume' : Volume) (n d : ℕ) (name : List ℕ) (fault : Fault) →
         LinkDoes T state state' volume volume' n d name (Err fault) →
         IsRefused state state' volume volume' fault ((linked (files_in state volume) volume.memory.clock n d name ≡ Err fault) ⊎ IsNoPlace fault) }
 {}
 
-/// So it is with `commit`, where nothing is to be replaced, and where it may replace.
+/// `commit` that is refused, where nothing is to be replaced and where it may replace, leaves the session as it was, and answers what the files say of the name,
+/// or that there is no room, place or number, and then all is as it was; or it answers the store's refusal.
 pub fn refused_commit_answers_the_files()
     ensures named { (T : Types) (state state' : StoreState) (volume volume' : Volume) (block d : ℕ) (name : List ℕ) (fault : Fault) →
         CommitDoes T state state' volume volume' block d name false (Err fault) →
@@ -254,7 +256,8 @@ pub fn refused_commit_answers_the_files()
         (((n : ℕ) (inode : Inode) → replaced (files_in state volume) volume.memory.clock d name n inode ≡ Err fault) ⊎ IsNoNumber fault) }
 {}
 
-/// So it is with `rmdir`; where it answers that the directory is not empty a name stands there.
+/// `rmdir` that is refused leaves the session as it was, and answers what the files say, or that there is no room, and then all is as it was; or it answers the
+/// store's refusal. Where it answers that the directory is not empty a name stands there.
 pub fn refused_rmdir_answers_the_files()
     ensures { (T : Types) (state state' : StoreState) (volume volume' : Volume) (d : ℕ) (name : List ℕ) (fault : Fault) → IsKept T state volume →
         RmdirDoes T state state' volume volume' d name (Err fault) →
@@ -263,7 +266,8 @@ pub fn refused_rmdir_answers_the_files()
     layout_is_known();
 }
 
-/// So it is with `rename`. A directory that would stand below itself is refused by what the inodes say of the directories above the new place.
+/// `rename` that is refused leaves the session as it was, and answers what the files say, or that there is no room or place, and then all is as it was; or it
+/// answers the store's refusal. A directory that would stand below itself is refused by what the inodes say of the directories above the new place.
 pub fn refused_rename_answers_the_files()
     ensures { (T : Types) (state state' : StoreState) (volume volume' : Volume) (d : ℕ) (name : List ℕ) (to : ℕ) (new : List ℕ) (fault : Fault) →
         IsKept T state volume → RenameDoes T state state' volume volume' d name to new (Err fault) →
