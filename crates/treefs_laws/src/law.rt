@@ -244,8 +244,8 @@ pub fn refused_link_answers_the_files()
         IsRefused state state' volume volume' fault ((linked (files_in state volume) volume.memory.clock n d name ≡ Err fault) ⊎ IsNoPlace fault) }
 {}
 
-/// `commit` that is refused, where nothing is to be replaced and where it may replace, leaves the session as it was, and answers what the files say of the name,
-/// or that there is no room, place or number, and then all is as it was; or it answers the store's refusal.
+/// `commit` that is refused, where nothing is to be replaced and where it may replace, leaves the session as it was, and answers what the files say of the
+/// name, or that there is no room, place or number, and then all is as it was; or it answers the store's refusal.
 pub fn refused_commit_answers_the_files()
     ensures named { (T : Types) (state state' : StoreState) (volume volume' : Volume) (block d : ℕ) (name : List ℕ) (fault : Fault) →
         CommitDoes T state state' volume volume' block d name false (Err fault) →
