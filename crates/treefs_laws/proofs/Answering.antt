@@ -7,11 +7,11 @@ use Rattle.treefs_format.specs.Names.{is_name}
 use Rattle.treefs_format.specs.declared.kind.Kind.{Kind}
 use Rattle.treefs_format.specs.declared.kind.Kind.TheVariants as kind
 use Rattle.treefs_model.specs.Changes.{linkable, new_name}
-use Rattle.treefs_model.specs.Files.{Files, Inode, Names, and_then, bytes_in, directory_at, file_at, found, is_directory, linked_names, names_for, names_in, number_in, when}
-use Rattle.treefs_model.specs.Reading.{bytes_of, content_at, files_of, inode_with, key_in, number_of}
+use Rattle.treefs_model.specs.Files.{Files, Inode, Names, and_then, directory_at, found, is_directory, linked_names, names_for, names_in, number_in, when}
+use Rattle.treefs_model.specs.Reading.{content_at, files_of, inode_with, key_in, number_of}
 use Rattle.treefs_model.specs.declared.fault.Fault.{Fault}
 use Rattle.treefs_model.specs.declared.fault.Fault.TheVariants.{BadName, Exists, IsDir, NoEntry, NotDir}
-use Rattle.treefs_lookup.specs.Inodes.{directory_found, file_found, if_bytes, if_directory, inode_found}
+use Rattle.treefs_lookup.specs.Inodes.{directory_found, if_bytes, if_directory, inode_found}
 use Rattle.treefs_lookup.specs.Names.{entry_found, named_in, slot_named}
 use Rattle.treefs_lookup.specs.Readable.{readable}
 use Rattle.treefs_lookup.specs.declared.inodes.Found.{Found}
@@ -81,21 +81,7 @@ module _ (state : StoreState) (volume : Volume) where
       by (Ok x) = of_kind x x.kind
       by (Err fault) = refl
 
-  -- a file or a symbolic link, and one that may have one more link
-  pub file_so : (n : ℕ) → file_at seen n ≡ and_then (file_found content top n) (λ x. Ok (bytes_of content x.block))
-  file_so n = ap (λ r. and_then r (λ (i : Inode). bytes_in i.content)) (found_so n) ∙ by (inode_found content top n)
-    where
-      of_kind : (x : Found) (k : Kind) → bytes_in (content_at content key x.block x.fields.parent k)
-          ≡ and_then (if_bytes x k) (λ (y : Found). Ok (bytes_of content y.block))
-      of_kind x kind.Directory = refl
-      of_kind x kind.File = refl
-      of_kind x kind.SymbolicLink = refl
-
-      by : (r : Result Found Fault) → and_then (and_then r (λ x. Ok (value_at n x))) (λ (i : Inode). bytes_in i.content)
-          ≡ and_then (and_then r (λ x. if_bytes x x.kind)) (λ (y : Found). Ok (bytes_of content y.block))
-      by (Ok x) = of_kind x x.kind
-      by (Err fault) = refl
-
+  -- a file or a symbolic link that may have one more link
   pub linkable_so : (n : ℕ) → and_then (found seen n) linkable ≡ and_then (plan_linkable content top n) (λ x. Ok (tt {0}))
   linkable_so n = ap (λ r. and_then r linkable) (found_so n) ∙ by (inode_found content top n)
     where
