@@ -13,7 +13,7 @@ zeros_at n k = elim (cases_lt k n) [
 ]
 
 -- past the digits
-hex_byte-past : (text : List ℕ) (k : ℕ) → length text ≤ 2 * k → hex_byte text k ≡ 0
+pub hex_byte-past : (text : List ℕ) (k : ℕ) → length text ≤ 2 * k → hex_byte text k ≡ 0
 hex_byte-past text k le =
     let past : (i : ℕ) → length text ≤ i → hex_digit_value (slice_index text i) ≡ 0 = λ i h. ap hex_digit_value (get_or_past {X = ℕ} text i 0 h) in
     rw (past (2 * k) le, past (2 * k + 1) (omega arith)) refl

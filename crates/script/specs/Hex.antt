@@ -8,12 +8,16 @@ is_hex_digit c = (nat_le 48 c && nat_le c 57) || (nat_le 97 c && nat_le c 102)
 abbrev pub hex_digit_value : ℕ → ℕ
 hex_digit_value c = if nat_le 48 c && nat_le c 57 then c - 48 else if nat_le 97 c && nat_le c 102 then c - 87 else 0
 
+-- all of these are digits
+abbrev pub AreHexDigits : List ℕ → Type 0
+AreHexDigits text = (k : ℕ) → k < length text → IsTrue (is_hex_digit (slice_index text k))
+
 -- one to 512 pairs of digits
 pub record IsHex (text : List ℕ) : Type 0 where
   pub pairs : length text % 2 ≡ 0
   pub some : 0 < length text
   pub few : length text ≤ 1024
-  pub digits : (k : ℕ) → k < length text → IsTrue (is_hex_digit (slice_index text k))
+  pub digits : AreHexDigits text
 
 -- the k-th byte that a text of pairs spells, and 0 past its end
 abbrev pub hex_byte : List ℕ → ℕ → ℕ

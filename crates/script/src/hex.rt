@@ -1,5 +1,5 @@
-ghost use Rattle.std.specs.Prelude.{◌≡◌, ◌+◌, ◌*◌, ◌<◌, ◌≤◌, ◌↔◌, IsTrue, IsSome, IfSome, IfNone, IfOk, Some, None, length, slice_index};
-ghost use Rattle.script.specs.Hex.{is_hex_digit, hex_digit_value, hex_byte, IsHex, IsBlockText, SpellsBlock, SpellsBytes, block_with};
+ghost use Rattle.std.specs.Prelude.{◌≡◌, ◌+◌, ◌*◌, ◌<◌, ◌≤◌, ◌↔◌, ℕ, IsTrue, IsSome, IfSome, IfNone, IfOk, Some, None, length, slice_index};
+ghost use Rattle.script.specs.Hex.{AreHexDigits, is_hex_digit, hex_digit_value, hex_byte, IsHex, IsBlockText, SpellsBlock, SpellsBytes, block_with};
 
 use std::alloc::{AllocError, Global};
 use store_types::BLOCK_LEN;
@@ -38,6 +38,49 @@ fn count_pairs(digits: &[u8]) -> Option<usize>
     Some(digits.len() / 2)
 }
 
+/// Reads so many pairs of digits into the first bytes. Where one is no pair of digits, some of the bytes may be read already.
+fn read_pairs(digits: &[u8], pairs: usize, bytes: &mut [u8]) -> bool
+    requires pairs { length digits.now ≡ 2 * pairs }
+    requires room { pairs ≤ length bytes.old }
+    ensures readable { IsTrue result ↔ AreHexDigits digits.now }
+    ensures read { IsTrue result → (k : ℕ) → k < pairs → slice_index bytes.new k ≡ hex_byte digits.now k }
+    ensures rest { (k : ℕ) → pairs ≤ k → slice_index bytes.new k ≡ slice_index bytes.old k }
+    ensures long { length bytes.new ≡ length bytes.old }
+{
+    for place in 0..pairs {
+        let Some(byte) = pair_value(digits[2 * place], digits[2 * place + 1]) else {
+            return false;
+        };
+        bytes[place] = byte;
+    }
+    true
+}
+
+/// The block that 1 to 512 pairs of lower-case digits spell; the bytes behind them are zero.
+fn parse_pairs(digits: &[u8]) -> Option<[u8; BLOCK_LEN]>
+    ensures readable { IsSome result ↔ IsHex digits.now }
+    ensures block { IfSome result (SpellsBlock digits.now) }
+{
+    let pairs = count_pairs(digits)?;
+    let mut block = [0u8; BLOCK_LEN];
+    if read_pairs(digits, pairs, &mut block) {
+        Some(block)
+    } else {
+        None
+    }
+}
+
+/// The block that 1 to 512 pairs of lower-case digits spell, or `-` for none; the bytes behind them are zero. It takes no memory.
+pub fn parse_block(text: &str) -> Option<[u8; BLOCK_LEN]>
+    ensures readable { IsSome result ↔ IsBlockText text.now }
+    ensures block { IfSome result (SpellsBlock text.now) }
+{
+    if text == "-" {
+        return Some([0; BLOCK_LEN]);
+    }
+    parse_pairs(text.as_bytes())
+}
+
 /// The bytes that 1 to 512 pairs of lower-case digits spell.
 pub fn parse_bytes(alloc: Global, text: &str) -> Result<Option<Vec<u8>>, AllocError>
     ensures readable { IfOk result (λ read. IsSome read ↔ IsHex text.now) }
@@ -47,14 +90,12 @@ pub fn parse_bytes(alloc: Global, text: &str) -> Result<Option<Vec<u8>>, AllocEr
     let Some(pairs) = count_pairs(digits) else {
         return Ok(None);
     };
-    let mut bytes = Vec::with_capacity(alloc, pairs)?;
-    for place in 0..pairs {
-        let Some(byte) = pair_value(digits[2 * place], digits[2 * place + 1]) else {
-            return Ok(None);
-        };
-        bytes.push_reserved(byte);
+    let mut bytes = vec![in alloc; 0u8; pairs]?;
+    if read_pairs(digits, pairs, &mut bytes) {
+        Ok(Some(bytes))
+    } else {
+        Ok(None)
     }
-    Ok(Some(bytes))
 }
 
 /// The bytes at the beginning of a block that 1 to 512 pairs of lower-case digits spell, or `-` for none; those behind them are zero.

@@ -18,6 +18,7 @@ mod words;
 pub use bytes::print_bytes;
 pub use edit::parse_edit;
 pub use fault::ScriptFault;
+pub use hex::parse_block;
 pub use line::ScriptLine;
 pub use number::{parse_number, parse_numbers, parse_u32};
 pub use print::print_reply;
