@@ -28,3 +28,11 @@ pub use Rattle.treefs_values.proofs.Fielding.{fields_files, fields_here, fields_
 pub use Rattle.treefs_values.proofs.FoundStill.{entry_still, found_still}
 pub use Rattle.treefs_values.proofs.Moving.{Stands, same_bucket, stands_alike, stands_found, stands_names, stands_other, stands_there}
 pub use Rattle.treefs_values.proofs.Moving.{placed_keeps, rewriting_numbered, rewriting_own, rewriting_stands, set_beside, set_directory, set_files, set_numbered, set_others, set_place, set_volume, written_twice}
+-- blocks that are dropped, and bytes that are put
+pub use Rattle.treefs_values.proofs.Cleared.{KeepsFields, cleared_whole, pointers_cleared}
+pub use Rattle.treefs_values.proofs.DroppedRead.{IsDrop, drop_is}
+pub use Rattle.treefs_values.proofs.Dropping.{byte_fades, dropped_fields, dropped_files, dropped_numbered, dropped_volume}
+pub use Rattle.treefs_values.proofs.BytesPut.{byte_put, new as put_new, put_in}
+pub use Rattle.treefs_values.proofs.BytesWritten.{files_put, same_listed, volume_put}
+pub use Rattle.treefs_values.proofs.Putting.{IsPut}
+pub use Rattle.treefs_values.proofs.Ways.{inode_pointer, node_pointer, numbered_same, tree_way}

@@ -42,3 +42,6 @@ pub mod Tabled
 pub mod EmptyBlocks
 pub mod ForCallers
 mod Moving
+pub mod DroppedRead
+pub mod Cleared
+pub mod Dropping

@@ -28,7 +28,7 @@ node_pointer node inode t o j is lt e =
 
 -- Paths are ways
 
-tree_way : (h l : ℕ) (js : List ℕ) → l + length js ≡ h → 1 ≤ h → h ≤ 4 → All (λ j. j < 127) js → IsWay (map node_offset js ++ tree_offset h ∷ []) l
+pub tree_way : (h l : ℕ) (js : List ℕ) → l + length js ≡ h → 1 ≤ h → h ≤ 4 → All (λ j. j < 127) js → IsWay (map node_offset js ++ tree_offset h ∷ []) l
 tree_way h l [] long low high within = let same : l ≡ h = omega arith in subst (λ k. IsWay (tree_offset h ∷ []) k) (sym same) (inr (low, high, refl))
 tree_way h l (j ∷ []) long low high within =
     let same : suc l ≡ h = omega arith in

@@ -8,3 +8,4 @@ pub mod Kinds
 pub mod Bytes
 pub mod Attached
 pub mod Begun
+pub mod Dropped

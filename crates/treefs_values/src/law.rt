@@ -2,6 +2,7 @@
 
 ghost use Rattle.std.specs.Prelude.{◌≡◌, ◌≢◌, ◌<◌, ◌≤◌, ◌+◌, ◌-◌, ◌^◌, ℕ, All, Contains, IsTrue, List, Option, None, Some, Ok, [], ◌∷◌, false, fold, length};
 ghost use Rattle.xn_model.specs.Types.{Types};
+ghost use Rattle.xn_model.specs.Lists.{has_number};
 ghost use Rattle.xn_model.specs.Lives.{StoreState};
 ghost use Rattle.xn_model.specs.Calls.{init_of, root_of};
 ghost use Rattle.xn_model.specs.Root.{word_at};
@@ -38,6 +39,7 @@ ghost use Rattle.treefs_values.specs.Attached.{IsEmptyBlock, IsFreeInode, IsPoin
 ghost use Rattle.treefs_values.specs.Begun.{with_block};
 ghost use Rattle.treefs_values.specs.Bytes.{bucket_at, place_in_bucket, with_put};
 ghost use Rattle.treefs_values.specs.Kinds.{kinds};
+ghost use Rattle.treefs_values.specs.Dropped.{AreDropped, AreOverPointers, IsCovered, IsHolderWay, IsLedTo, IsPast, clear_act, with_blocks};
 ghost use Rattle.treefs_values.specs.KnownLayout.{IsLayout};
 ghost use Rattle.treefs_values.specs.Names.{bucket_entries};
 ghost use Rattle.treefs_values.specs.Values.{AreChanges, KeepsBlocks, found_value, inode_with_links, led_to, links_parts};
@@ -289,3 +291,34 @@ pub fn readable_blocks_are_apart()
         fs < 32 →
         root_of state fs ≡ Some top → ArePointersApart node inode (kinds state fs) (readable state fs) top }
 {}
+
+/// What a file system reads after an edit that drops blocks and adds none: its patches are written, and these blocks may not be read any more.
+pub fn edits_that_drop_are_read()
+    ensures { (T : Types) (fs : ℕ) (act : Act) (old new : StoreState) → IsConsistent T old → act.edit.adds ≡ [] → Ran T fs (act ∷ []) old new (Ok tt) →
+        IsConsistent T new × (readable new fs ≡ with_blocks (written act (readable old fs)) act.edit.drops [])
+        × (kinds new fs ≡ with_blocks (kinds old fs) act.edit.drops 0) × (has_number act.edit.drops act.block ≡ false) × (root_of new fs ≡ root_of old fs) }
+{}
+
+/// An edit that drops blocks makes pointers of one block 0, those that led to them and maybe others: no other pointer changes.
+pub fn dropped_blocks_are_not_pointed_to()
+    ensures { (node inode : ℕ) (type : ℕ → ℕ) (content : ℕ → List ℕ) (holder : ℕ) (places : List (ℕ × ℕ)) (blocks : List ℕ) (behind : Option ℕ) →
+        node ≢ inode → holder ≢ 0 → IsWholeBlock (content holder) → All (AreOverPointers node inode (type holder)) places →
+        All (IsLedTo content holder places) blocks → has_number blocks holder ≡ false →
+        let new = with_blocks (written (clear_act holder places blocks behind) content) blocks [] in
+        AreDropped node inode type (with_blocks type blocks 0) content new holder places × IsWholeBlock (new holder) }
+{
+    inode_pointers_are_set();
+}
+
+/// Pointers of the inode of a file or a symbolic link, or of a node of its tree, come to lead nowhere, and the blocks to which they led may not be read any more;
+/// none of them leads on to a byte before the size: the files are as before.
+pub fn dropped_blocks_change_no_file()
+    ensures { (node inode top : ℕ) (type type' : ℕ → ℕ) (content new : ℕ → List ℕ) → IsVolume node inode type content top → (n : ℕ) (above : List ℕ)
+        (places : List (ℕ × ℕ)) (kind : Kind) → n ≢ 0 → let c = block_numbered content top n in kind_of (fields_of (content c)).mode ≡ Some kind →
+        kind ≢ Directory → IsHolderWay above → let holder = block_at content c above in holder ≢ 0 →
+        AreDropped node inode type type' content new holder places → IsWholeBlock (new holder) →
+        ((o : ℕ) → IsCovered places o → IsPast (fields_of (content c)).size (o ∷ above)) →
+        IsVolume node inode type' new top × (files_of new top ≡ files_of content top) }
+{
+    layout_is_known();
+}
