@@ -37,3 +37,10 @@ mod MovedSteps
 mod MovedStore
 mod MovedFiles
 mod MovedVolume
+mod CutWays
+mod TrimParts
+mod TrimWaits
+mod TrimBlanks
+mod TrimRoots
+mod TrimOpen
+mod TrimSought

@@ -7,3 +7,4 @@ pub mod Begun
 pub mod Setting
 pub mod Refusals
 pub mod Moved
+pub mod Trimmed

@@ -1,6 +1,6 @@
 // Laws of calls.
 
-ghost use Rattle.std.specs.Prelude.{◌≡◌, ◌≢◌, ◌⊎◌, ◌<◌, ◌≤◌, ℕ, ℤ, All, FitsSigned, List, None, Some, Ok, Err, Result, [], drop, false, length, take, true};
+ghost use Rattle.std.specs.Prelude.{◌≡◌, ◌≢◌, ◌⊎◌, ◌<◌, ◌≤◌, ℕ, ℤ, All, FitsSigned, List, Option, None, Some, Ok, Err, Result, [], drop, false, length, take, true};
 ghost use Rattle.std.specs.Int.{w64};
 ghost use Rattle.xn_model.specs.Types.{Types};
 ghost use Rattle.xn_model.specs.Lives.{StoreState};
@@ -22,13 +22,17 @@ ghost use Rattle.treefs.specs.Linking.{LinkDoes};
 ghost use Rattle.treefs.specs.Reads.{lookup_of, stat_of};
 ghost use Rattle.treefs.specs.Renaming.{RenameDoes};
 ghost use Rattle.treefs.specs.Setting.{AttributesDoes, MtimeDoes};
+ghost use Rattle.treefs.specs.Trimming.{Blanks, Drops, Roots, TrimCallDoes, TrimsFirst, Waits};
 ghost use Rattle.treefs.specs.Unlinking.{RmdirDoes, UnlinkDoes};
 ghost use Rattle.treefs.specs.WritingTimes.{WriteTimesDoes};
 ghost use Rattle.treefs.specs.declared.attributes.Attributes.{Attributes as NewAttributes};
 ghost use Rattle.treefs.specs.declared.volume.Volume.{Volume};
 ghost use Rattle.treefs_values.specs.Attached.{new_content};
 ghost use Rattle.treefs_values.specs.Values.{found_value};
+ghost use Rattle.treefs_byte_plans.specs.Sizes.{IsTrimToTruncate};
+ghost use Rattle.treefs_byte_plans.specs.Writes.{IsTrimToWrite};
 ghost use Rattle.treefs_byte_plans.specs.declared.attributes.Attributes.{Attributes};
+ghost use Rattle.treefs_byte_plans.specs.declared.kept.Kept.{Kept};
 ghost use Rattle.treefs_laws.specs.Begun.{IsBegun};
 ghost use Rattle.treefs_laws.specs.Kept.{HasNoNames, IsKept, files_in};
 ghost use Rattle.treefs_laws.specs.Making.{FitsAttributes, MakesInode, new_inode};
@@ -37,6 +41,7 @@ ghost use Rattle.treefs_laws.specs.Open.{IsOpen};
 ghost use Rattle.treefs_laws.specs.Reading.{AreAnswered, HasFewBytes, listed_by, read_bytes};
 ghost use Rattle.treefs_laws.specs.Refusals.{IsNoNumber, IsNoPlace, IsNotMoved, IsNotRemoved, IsRefused, IsWant};
 ghost use Rattle.treefs_laws.specs.Setting.{AreInWidth, with_attributes};
+ghost use Rattle.treefs_laws.specs.Trimmed.{AreKeptOf, IsKeptOf};
 
 use treefs_format::law::modes_are_read_back;
 use treefs_values::law::layout_is_known;
@@ -290,3 +295,39 @@ pub fn open_volumes_stay_open()
     layout_is_known();
     modes_are_read_back();
 }
+
+/// The parts of a trim of a file or a symbolic link change no file, whatever they answer: the one that makes bytes past the size 0, the one that drops pointers of
+/// nodes, however many drops are left, the one that drops pointers of the inode, and the one that ends it.
+pub fn parts_of_a_trim_change_no_file()
+    ensures blanks { (T : Types) (old new : StoreState) (volume : Volume) (kept : Kept) (result : Result (Unit {0}) Fault) → IsOpen T old volume →
+        IsKeptOf old volume kept → Blanks T volume.tree.fs.number volume.memory kept old new result →
+        IsOpen T new volume × (files_in new volume ≡ files_in old volume) }
+    ensures drops { (T : Types) (old new : StoreState) (volume : Volume) (kept : Kept) (left : ℕ) (result : Result (Unit {0}) Fault) → IsOpen T old volume →
+        IsKeptOf old volume kept → Drops T volume.tree.fs.number volume.memory kept left old new result →
+        IsOpen T new volume × (files_in new volume ≡ files_in old volume) }
+    ensures roots { (T : Types) (old new : StoreState) (volume : Volume) (kept : Kept) (result : Result (Unit {0}) Fault) → IsOpen T old volume →
+        IsKeptOf old volume kept → Roots T volume.tree.fs.number kept old new result → IsOpen T new volume × (files_in new volume ≡ files_in old volume) }
+    ensures waits { (T : Types) (old new : StoreState) (volume : Volume) (kept : Kept) (result : Result (Unit {0}) Fault) → IsOpen T old volume →
+        IsKeptOf old volume kept → Waits T volume.tree.fs.number kept old new result → IsOpen T new volume × (files_in new volume ≡ files_in old volume) }
+{
+    layout_is_known();
+}
+
+/// A trim changes no file, whatever it answers: neither one that comes before something else, nor the call.
+pub fn trims_change_no_file()
+    ensures first { (T : Types) (old new : StoreState) (volume : Volume) (kept : Option Kept) (result : Result (Unit {0}) Fault) → IsOpen T old volume →
+        AreKeptOf old volume kept → TrimsFirst T volume.tree.fs.number volume.memory kept old new result →
+        IsOpen T new volume × (files_in new volume ≡ files_in old volume) }
+    ensures call { (T : Types) (old new : StoreState) (volume : Volume) (number : ℕ) (result : Result (Unit {0}) Fault) → IsOpen T old volume →
+        TrimCallDoes T old new volume number result → IsOpen T new volume × (files_in new volume ≡ files_in old volume) }
+{
+    layout_is_known();
+}
+
+/// What `truncate` and `write_some` trim before their own edits is of a file or a symbolic link of the volume.
+pub fn what_is_trimmed_first_is_of_a_file()
+    ensures truncate { (state : StoreState) (volume : Volume) (number size : ℕ) (kept : Option Kept) →
+        IsTrimToTruncate (readable state volume.tree.fs.number) volume.tree.top number size kept → AreKeptOf state volume kept }
+    ensures write { (state : StoreState) (volume : Volume) (number at count : ℕ) (kept : Option Kept) →
+        IsTrimToWrite (readable state volume.tree.fs.number) volume.tree.top number at count kept → AreKeptOf state volume kept }
+{}

@@ -3,7 +3,7 @@
 -- what is read
 pub use Rattle.treefs_values.proofs.Alike.{IsAlike, bucket_same, in_leaf}
 pub use Rattle.treefs_values.proofs.Entries.{same_bytes, same_eq}
-pub use Rattle.treefs_values.proofs.Elsewhere.{inode_numbered}
+pub use Rattle.treefs_values.proofs.Elsewhere.{file_read, inode_numbered}
 pub use Rattle.treefs_values.proofs.Listed.{IsLiveEntry, has_of, live_leads, number_stands}
 pub use Rattle.treefs_values.proofs.Named.{candidates_few}
 pub use Rattle.treefs_values.proofs.Numbers.{among_numbers}

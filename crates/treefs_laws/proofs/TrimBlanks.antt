@@ -1,0 +1,261 @@
+-- Bytes past the size of a file that become 0.
+use mathlib.Core.Path.{fun_ext}
+use Rattle.std.proofs.Common.{◌≡◌, ◌≢◌, ℕ, zero, suc, ◌+◌, ◌-◌, ◌/◌, ◌%◌, ◌<◌, ◌≤◌, Bool, true, false, ◌&&◌, not, List, [], ◌∷◌, length, replicate, Option, None, Some, Result, Ok, Err, refl, sym, ◌∙◌, ap, inl, inr, subst, arith, if◌then◌else◌}
+use Rattle.std.specs.Prelude.{All, map, nat_lt, option_map, slice_index, ◌==◌}
+use Rattle.std.specs.List.{range_with_len}
+use Rattle.std.proofs.lemmas.Bool.{and_from, and_parts, cases_eq, eq-eqb, le-ltb, lt-leb, ltb-true, lt-ltb, ne_eqb, true≢false}
+use Rattle.std.proofs.lemmas.List.{length-replicate}
+use Rattle.std.proofs.lemmas.List.Elements.{All-cons, All-nil, All-replicate}
+use Rattle.std.proofs.lemmas.List.FromFn.{get_or-map-range_with_len, length-map-range_with_len}
+use Rattle.xn_model.specs.Types.{Types}
+use Rattle.xn_model.specs.Lists.{blank}
+use Rattle.xn_model.specs.Lives.{StoreState}
+use Rattle.xn_model.specs.Rules.{IsConsistent}
+use Rattle.treefs_format.specs.Fields.{fields_of}
+use Rattle.treefs_format.specs.Inodes.{kind_of}
+use Rattle.treefs_format.specs.Leaves.{greatest_size}
+use Rattle.treefs_format.specs.Paths.{leaf_count}
+use Rattle.treefs_format.specs.declared.fields.Fields.{Fields}
+use Rattle.treefs_format.specs.declared.kind.Kind.{Kind}
+use Rattle.treefs_format.specs.declared.kind.Kind.TheVariants as kind
+use Rattle.treefs_model.specs.Acts.{Act, Ran, one_patch, patch_act}
+use Rattle.treefs_model.specs.Changes.{with_bytes}
+use Rattle.treefs_model.specs.Files.{File, SymbolicLink, changed_at, changed_in}
+use Rattle.treefs_model.specs.Reading.{byte_of, content_at, files_of, inode_with, key_in, leaf_block, leaf_byte}
+use Rattle.treefs_model.specs.declared.fault.Fault.{Fault}
+use Rattle.treefs_model.specs.declared.fault.Fault.TheVariants.{Full}
+use Rattle.treefs_lookup.specs.Buckets.{bucket_block, bucket_start}
+use Rattle.treefs_lookup.specs.Bytes.{file_end, part_left}
+use Rattle.treefs_lookup.specs.Readable.{readable}
+use Rattle.treefs_lookup.specs.Trimmed.{bytes_past}
+use Rattle.treefs_edits.specs.Memories.{Memory}
+use Rattle.treefs_edits.specs.Rooms.{has_room}
+use Rattle.treefs_edits.specs.declared.tree.Tree.{Tree}
+use Rattle.treefs_byte_plans.specs.Blanks.{blank_act, has_tail}
+use Rattle.treefs_byte_plans.specs.Kept.{kept_up_to}
+use Rattle.treefs_byte_plans.specs.Sizes.{has_bytes_behind}
+use Rattle.treefs_byte_plans.specs.declared.blank.BlankPlan.{BlankPlan}
+use Rattle.treefs.specs.Trimming.{Blanks, DoesIfAny, plan_of_blank}
+use Rattle.treefs_values.specs.Bytes.{bucket_at, byte_over, place_in_bucket, put_within, with_put}
+use Rattle.treefs_values.specs.Kinds.{kinds}
+use Rattle.treefs_values.specs.KnownLayout.{IsLayout}
+use Rattle.treefs_values.specs.Values.{KeepsBlocks}
+use Rattle.treefs_values.specs.Volumes.{IsVolume}
+use Rattle.treefs_values.specs.Ways.{block_numbered}
+use Rattle.treefs_values.proofs.ForCallers.{acts_read, file_read, files_put, inode_numbered, numbered_same, put_in, put_new, same_listed, volume_put}
+use Rattle.treefs_laws.proofs.Planned.{ran_acts}
+use Rattle.treefs_laws.proofs.StillOpen.{ran_root}
+use Rattle.treefs_laws.proofs.TimesWritten.{refused_whole}
+use Rattle.treefs_laws.proofs.TrimParts.{IsFileAt, Stays, stays_same}
+
+-- Zeros
+
+blank_range : (f : ℕ → ℕ) (m a : ℕ) → ((p : ℕ) → a ≤ p → p < a + m → f p ≡ 0) → blank (map f (range_with_len a m)) ≡ true
+blank_range f zero a none = refl
+blank_range f (suc m) a none =
+    and_from (f a == 0) (blank (map f (range_with_len (a + 1) m))) (eq-eqb (f a) 0 (none a (omega arith) (omega arith)))
+    (blank_range f m (a + 1) (λ p low high. none p (omega arith) (omega arith)))
+
+not_true : (t : Bool) → not t ≡ true → t ≡ false
+not_true true e = absurd (cc e)
+not_true false e = refl
+
+-- bytes past all of a list change none of it
+module _ (f : ℕ → ℕ) (size first : ℕ) (bytes : List ℕ) (past : size ≤ first) where
+  abbrev listed : List ℕ
+  listed = map f (range_with_len 0 size)
+
+  over_same : (i : ℕ) → i < size → byte_over first bytes (slice_index listed) i ≡ f i
+  over_same i lt =
+      ap (λ t. if t && nat_lt i (first + length bytes) then slice_index bytes (i - first) else slice_index listed i) (lt-leb first i (omega arith))
+      ∙ get_or-map-range_with_len f 0 size i i 0 lt (omega arith)
+
+  put_same : put_within first bytes listed ≡ listed
+  put_same =
+      ap (λ l. map (byte_over first bytes (slice_index listed)) (range_with_len 0 l)) (length-map-range_with_len f 0 size)
+      ∙ same_listed (byte_over first bytes (slice_index listed)) f size over_same
+
+module _ (T : Types) (tree : Tree) (known : IsLayout) (n : ℕ) (number : n ≢ 0) (c size : ℕ) (k : Kind) (no_directory : k ≢ kind.Directory) where
+  abbrev fs : ℕ
+  fs = tree.fs.number
+
+  abbrev top : ℕ
+  top = tree.top
+
+  abbrev node : ℕ
+  node = tree.node_type
+
+  abbrev inode : ℕ
+  inode = tree.inode_type
+
+  abbrev At : StoreState → Type 0
+  At s = IsFileAt T tree known n number c size k no_directory s
+
+  abbrev Stay : StoreState → StoreState → Type 0
+  Stay old new = Stays T tree known n number c size k no_directory old new
+
+  module _ (old new : StoreState) (at : At old) (first : ℕ) (bytes : List ℕ) (range : All (λ b. b < 256) bytes) (some : 0 < length bytes) (few : bucket_at first ≤ leaf_count)
+      (fits : length bytes ≤ part_left first) (there : bucket_block (readable old fs) (block_numbered (readable old fs) top n) (bucket_at first) ≢ 0) (past : size ≤ first)
+      (small : size ≤ greatest_size) (behind : Option ℕ)
+      (ran : Ran T fs (patch_act (bucket_block (readable old fs) (block_numbered (readable old fs) top n) (bucket_at first))
+      (one_patch (bucket_start (bucket_at first) + place_in_bucket first) bytes) behind ∷ []) old new (Ok tt)) where
+    abbrev content : ℕ → List ℕ
+    content = readable old fs
+
+    abbrev b : ℕ
+    b = block_numbered content top n
+
+    abbrev was : Fields
+    was = fields_of (content b)
+
+    abbrev act : Act
+    act = patch_act (bucket_block content b (bucket_at first)) (one_patch (bucket_start (bucket_at first) + place_in_bucket first) bytes) behind
+
+    v : IsVolume node inode (kinds old fs) content top
+    v = at.here.volume
+
+    b_there : b ≢ 0
+    b_there z = at.there (sym at.block ∙ z)
+
+    abbrev put : ℕ → List ℕ
+    put = put_new node inode top (kinds old fs) content v known n number b_there bytes range some first few fits there behind
+
+    fine : was.size ≤ greatest_size
+    fine = subst (λ s. s ≤ greatest_size) (sym at.size_is) small
+
+    keep : All KeepsBlocks (act ∷ [])
+    keep = All-cons KeepsBlocks act [] refl (All-nil KeepsBlocks)
+
+    read : IsConsistent T new × (readable new fs ≡ put) × (kinds new fs ≡ kinds old fs)
+    read = acts_read T fs (act ∷ []) old new at.here.store keep ran
+
+    numbered : block_numbered put top n ≡ b
+    numbered = numbered_same node inode top (kinds old fs) content put v.typed
+        (put_in node inode top (kinds old fs) content v known n number b_there bytes range some first few fits there behind).keeps n
+
+    fields : fields_of (put (block_numbered put top n)) ≡ was
+    fields = ap (λ x. fields_of (put x)) numbered
+        ∙ (put_in node inode top (kinds old fs) content v known n number b_there bytes range some first few fits there behind).fields
+
+    content_same : (k : Kind) → k ≢ kind.Directory →
+        with_bytes (put_within first bytes) (content_at content (key_in content top) b was.parent k) ≡ content_at content (key_in content top) b was.parent k
+    content_same kind.Directory other = absurd (other refl)
+    content_same kind.File other = ap File (put_same (byte_of content b) was.size first bytes (subst (λ s. s ≤ first) (sym at.size_is) past))
+    content_same kind.SymbolicLink other = ap SymbolicLink (put_same (byte_of content b) was.size first bytes (subst (λ s. s ≤ first) (sym at.size_is) past))
+
+    own : files_of content top n ≡ Some (inode_with was (content_at content (key_in content top) b was.parent k))
+    own = file_read content top n b (sym (inode_numbered content top n number)) b_there
+        ∙ ap (option_map (λ k. inode_with was (content_at content (key_in content top) b was.parent k))) at.kind_is
+
+    own_same : changed_in (with_put first bytes) (files_of content top n) ≡ files_of content top n
+    own_same = ap (changed_in (with_put first bytes)) own ∙ (ap (λ x. Some (inode_with was x)) (content_same k no_directory) ∙ sym own)
+
+    unchanged : changed_at (files_of content top) n (with_put first bytes) ≡ files_of content top
+    unchanged = fun_ext (λ m. elim (cases_eq m n) [
+      | inl is ↦ ap (λ t. if t then changed_in (with_put first bytes) (files_of content top n) else files_of content top m) (eq-eqb m n is)
+          ∙ (own_same ∙ sym (ap (files_of content top) is))
+      | inr ne ↦ ap (λ t. if t then changed_in (with_put first bytes) (files_of content top n) else files_of content top m) (ne_eqb m n ne)
+    ])
+
+    put_stays : Stay old new
+    put_stays = (
+      record {
+        here = record {
+          store = read.0;
+          root = ran_root T fs (act ∷ []) old new at.here.store keep ran ∙ at.here.root;
+          volume = subst (λ t. IsVolume node inode t (readable new fs) top) (sym read.2) (subst (λ m. IsVolume node inode (kinds old fs) m top) (sym read.1)
+              (volume_put node inode top (kinds old fs) content v known n number b_there bytes range some first few fits there behind fine k at.kind_is no_directory));
+        };
+        block = ap (λ m. block_numbered m top n) read.1 ∙ (numbered ∙ at.block);
+        there = at.there;
+        size_is = ap (λ m. (fields_of (m (block_numbered m top n))).size) read.1 ∙ (ap (λ (f : Fields). f.size) fields ∙ at.size_is);
+        kind_is = ap (λ m. kind_of (fields_of (m (block_numbered m top n))).mode) read.1 ∙ (ap (λ (f : Fields). kind_of f.mode) fields ∙ at.kind_is);
+      },
+      ap (λ m. files_of m top) read.1
+          ∙ (files_put node inode top (kinds old fs) content v known n number b_there bytes range some first few fits there behind fine k at.kind_is no_directory ∙ unchanged),
+    )
+
+  abbrev end : ℕ
+  end = file_end size
+
+  module _ (old new : StoreState) (at : At old) where
+    abbrev m : ℕ → List ℕ
+    m = readable old fs
+
+    abbrev place : ℕ
+    place = block_numbered m top n
+
+    -- in the inode
+    in_inode : end < 384 → Ran T fs (blank_act (record { block = c; offset = 128 + end; behind = None }) ∷ []) old new (Ok tt) → Stay old new
+    in_inode low ran =
+        let bucket : bucket_at end ≡ 0 = ap (λ t. if t then 0 else end / 512 + 1) (lt-ltb end 384 low) in
+        let at_place : place_in_bucket end ≡ end = ap (λ t. if t then end else end % 512) (lt-ltb end 384 low) in
+        let left : part_left end ≡ 384 - end = ap (λ t. if t then 384 - end else 512 - end % 512) (lt-ltb end 384 low) in
+        let long : length (replicate {A = ℕ} (512 - (128 + end)) 0) ≡ 512 - (128 + end) = length-replicate (512 - (128 + end)) 0 in
+        let is_block : c ≡ bucket_block m place (bucket_at end) = sym at.block ∙ ap (bucket_block m place) (sym bucket) in
+        put_stays old new at end (replicate (512 - (128 + end)) 0) (All-replicate (λ b. b < 256) (512 - (128 + end)) 0 (omega arith)) (omega arith)
+        (omega arith) (omega arith) (λ z. at.there (is_block ∙ z)) (omega arith) (omega arith) None
+        (subst (λ (a : Act). Ran T fs (a ∷ []) old new (Ok tt))
+        (λ j. patch_act (is_block j) (one_patch (bucket_start (sym bucket j) + sym at_place j) (replicate (512 - (128 + end)) 0)) None) ran)
+
+    -- in a leaf
+    leaf_there : 384 ≤ end → blank (bytes_past m c end) ≡ false → leaf_block m c (end / 512) ≢ 0
+    leaf_there high some z =
+        let left : part_left end ≡ 512 - end % 512 = ap (λ t. if t then 384 - end else 512 - end % 512) (le-ltb end 384 high) in
+        true≢false (sym (blank_range (byte_of m c) (part_left end) end (λ p low lt.
+        let same : p / 512 ≡ end / 512 = omega arith in
+        ap (λ t. if t then slice_index (m c) (128 + p) else leaf_byte m (leaf_block m c (p / 512)) (p % 512)) (le-ltb p 384 (omega arith))
+        ∙ (ap (λ i. leaf_byte m (leaf_block m c i) (p % 512)) same ∙ ap (λ x. leaf_byte m x (p % 512)) z))) ∙ some)
+
+    in_leaf : 384 ≤ end → end < greatest_size → blank (bytes_past m c end) ≡ false →
+        Ran T fs (blank_act (record { block = leaf_block m c (end / 512); offset = end % 512; behind = Some c }) ∷ []) old new (Ok tt) → Stay old new
+    in_leaf high low some ran =
+        let bucket : bucket_at end ≡ end / 512 + 1 = ap (λ t. if t then 0 else end / 512 + 1) (le-ltb end 384 high) in
+        let at_place : place_in_bucket end ≡ end % 512 = ap (λ t. if t then end else end % 512) (le-ltb end 384 high) in
+        let left : part_left end ≡ 512 - end % 512 = ap (λ t. if t then 384 - end else 512 - end % 512) (le-ltb end 384 high) in
+        let long : length (replicate {A = ℕ} (512 - end % 512) 0) ≡ 512 - end % 512 = length-replicate (512 - end % 512) 0 in
+        let bucket_some : bucket_at end ≢ 0 = λ z. absurd (omega (arith, z, bucket)) in
+        let one_less : bucket_at end - 1 ≡ end / 512 = omega arith in
+        let is_block : leaf_block m c (end / 512) ≡ bucket_block m place (bucket_at end) =
+        (λ j. leaf_block m (sym at.block j) (sym one_less j))
+        ∙ sym (ap (λ t. if t then place else leaf_block m place (bucket_at end - 1)) (ne_eqb (bucket_at end) 0 bucket_some)) in
+        let start : 0 ≡ bucket_start (bucket_at end) = sym (ap (λ t. if t then 128 else 0) (ne_eqb (bucket_at end) 0 bucket_some)) in
+        let at_offset : end % 512 ≡ bucket_start (bucket_at end) + place_in_bucket end = omega arith in
+        put_stays old new at end (replicate (512 - end % 512) 0) (All-replicate (λ b. b < 256) (512 - end % 512) 0 (omega arith)) (omega arith)
+        (omega arith) (omega arith) (λ z. leaf_there high some (is_block ∙ z)) (omega arith) (omega arith) (Some c)
+        (subst (λ (a : Act). Ran T fs (a ∷ []) old new (Ok tt)) (λ j. patch_act (is_block j) (one_patch (at_offset j) (replicate (512 - end % 512) 0)) (Some c)) ran)
+
+  one_blank : (old new : StoreState) (result : Result (Unit {0}) Fault) → At old → (plan : BlankPlan) →
+      (Ran T fs (blank_act plan ∷ []) old new (Ok tt) → Stay old new) → DoesIfAny T fs (plan_of_blank (Ok (Some plan))) old new result → Stay old new
+  one_blank old new (Ok tt) at plan stay does = stay (ran_acts T fs (blank_act plan ∷ []) old new does)
+  one_blank old new (Err fault) at plan stay does = stays_same T tree known n number c size k no_directory old new at (refused_whole T fs (blank_act plan) old new fault does)
+
+  abbrev leaf_plan : StoreState → BlankPlan
+  leaf_plan old = record { block = leaf_block (readable old fs) c (end / 512); offset = end % 512; behind = Some c }
+
+  pub blanks_stay : (memory : Memory) (old new : StoreState) (result : Result (Unit {0}) Fault) → At old → Blanks T fs memory (kept_up_to c size) old new result → Stay old new
+  blanks_stay memory old new result at does = by (has_bytes_behind (readable old fs) c end) refl does
+    where
+      in_room : (t : Bool) → has_tail (readable old fs) c end ≡ true → DoesIfAny T fs (plan_of_blank (if t then Ok (Some (leaf_plan old)) else Err Full)) old new result → Stay old new
+      in_room true is does =
+          let one = and_parts (nat_lt 384 end) (nat_lt end greatest_size && (not (end % 512 == 0) && not (blank (bytes_past (readable old fs) c end)))) is in
+          let two = and_parts (nat_lt end greatest_size) (not (end % 512 == 0) && not (blank (bytes_past (readable old fs) c end))) one.1 in
+          let three = and_parts (not (end % 512 == 0)) (not (blank (bytes_past (readable old fs) c end))) two.1 in
+          let high : 384 < end = ltb-true 384 end one.0 in
+          one_blank old new result at (leaf_plan old) (in_leaf old new at (omega arith) (ltb-true end greatest_size two.0) (not_true (blank (bytes_past (readable old fs) c end)) three.1)) does
+      in_room false is does = stays_same T tree known n number c size k no_directory old new at does.1
+
+      tail : (t : Bool) → has_tail (readable old fs) c end ≡ t →
+          DoesIfAny T fs (plan_of_blank (if t then (if has_room old fs (length memory.touched) 10 (((leaf_plan old).block, 1) ∷ []) then Ok (Some (leaf_plan old)) else Err Full) else Ok None)) old new result →
+          Stay old new
+      tail true is does = in_room (has_room old fs (length memory.touched) 10 (((leaf_plan old).block, 1) ∷ [])) is does
+      tail false is does = stays_same T tree known n number c size k no_directory old new at does.1
+
+      by : (t : Bool) → has_bytes_behind (readable old fs) c end ≡ t →
+          DoesIfAny T fs (plan_of_blank (if t then Ok (Some (record { block = c; offset = 128 + end; behind = None })) else
+          if has_tail (readable old fs) c end then (if has_room old fs (length memory.touched) 10 (((leaf_plan old).block, 1) ∷ []) then Ok (Some (leaf_plan old)) else Err Full) else Ok None)) old new result →
+          Stay old new
+      by true is does =
+          let low = ltb-true end 384 (and_parts (nat_lt end 384) (not (blank (bytes_past (readable old fs) c end))) is).0 in
+          one_blank old new result at (record { block = c; offset = 128 + end; behind = None }) (in_inode old new at low) does
+      by false is does = tail (has_tail (readable old fs) c end) refl does
