@@ -44,3 +44,5 @@ mod TrimBlanks
 mod TrimRoots
 mod TrimOpen
 mod TrimSought
+mod Truncated
+mod TruncatedOpen

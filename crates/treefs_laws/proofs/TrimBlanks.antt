@@ -75,6 +75,56 @@ module _ (f : ℕ → ℕ) (size first : ℕ) (bytes : List ℕ) (past : size �
       ap (λ l. map (byte_over first bytes (slice_index listed)) (range_with_len 0 l)) (length-map-range_with_len f 0 size)
       ∙ same_listed (byte_over first bytes (slice_index listed)) f size over_same
 
+-- Bytes past the size of a file are put
+
+module _ (node inode top : ℕ) (type : ℕ → ℕ) (content : ℕ → List ℕ) (v : IsVolume node inode type content top) (known : IsLayout) (n : ℕ) (number : n ≢ 0)
+    (b_there : block_numbered content top n ≢ 0) (k : Kind) (is_kind : kind_of (fields_of (content (block_numbered content top n))).mode ≡ Some k) (no_directory : k ≢ kind.Directory)
+    (first : ℕ) (bytes : List ℕ) (range : All (λ b. b < 256) bytes) (some : 0 < length bytes) (few : bucket_at first ≤ leaf_count) (fits : length bytes ≤ part_left first)
+    (there : bucket_block content (block_numbered content top n) (bucket_at first) ≢ 0) (past : (fields_of (content (block_numbered content top n))).size ≤ first)
+    (small : (fields_of (content (block_numbered content top n))).size ≤ greatest_size) (behind : Option ℕ) where
+  abbrev b : ℕ
+  b = block_numbered content top n
+
+  abbrev was : Fields
+  was = fields_of (content b)
+
+  abbrev pub put : ℕ → List ℕ
+  put = put_new node inode top type content v known n number b_there bytes range some first few fits there behind
+
+  pub put_numbered : block_numbered put top n ≡ b
+  put_numbered = numbered_same node inode top type content put v.typed
+      (put_in node inode top type content v known n number b_there bytes range some first few fits there behind).keeps n
+
+  pub put_fields : fields_of (put (block_numbered put top n)) ≡ was
+  put_fields = ap (λ x. fields_of (put x)) put_numbered
+      ∙ (put_in node inode top type content v known n number b_there bytes range some first few fits there behind).fields
+
+  pub put_volume : IsVolume node inode type put top
+  put_volume = volume_put node inode top type content v known n number b_there bytes range some first few fits there behind small k is_kind no_directory
+
+  content_same : (k : Kind) → k ≢ kind.Directory →
+      with_bytes (put_within first bytes) (content_at content (key_in content top) b was.parent k) ≡ content_at content (key_in content top) b was.parent k
+  content_same kind.Directory other = absurd (other refl)
+  content_same kind.File other = ap File (put_same (byte_of content b) was.size first bytes past)
+  content_same kind.SymbolicLink other = ap SymbolicLink (put_same (byte_of content b) was.size first bytes past)
+
+  own : files_of content top n ≡ Some (inode_with was (content_at content (key_in content top) b was.parent k))
+  own = file_read content top n b (sym (inode_numbered content top n number)) b_there
+      ∙ ap (option_map (λ k. inode_with was (content_at content (key_in content top) b was.parent k))) is_kind
+
+  own_same : changed_in (with_put first bytes) (files_of content top n) ≡ files_of content top n
+  own_same = ap (changed_in (with_put first bytes)) own ∙ (ap (λ x. Some (inode_with was x)) (content_same k no_directory) ∙ sym own)
+
+  unchanged : changed_at (files_of content top) n (with_put first bytes) ≡ files_of content top
+  unchanged = fun_ext (λ m. elim (cases_eq m n) [
+    | inl is ↦ ap (λ t. if t then changed_in (with_put first bytes) (files_of content top n) else files_of content top m) (eq-eqb m n is)
+        ∙ (own_same ∙ sym (ap (files_of content top) is))
+    | inr ne ↦ ap (λ t. if t then changed_in (with_put first bytes) (files_of content top n) else files_of content top m) (ne_eqb m n ne)
+  ])
+
+  pub put_files : files_of put top ≡ files_of content top
+  put_files = files_put node inode top type content v known n number b_there bytes range some first few fits there behind small k is_kind no_directory ∙ unchanged
+
 module _ (T : Types) (tree : Tree) (known : IsLayout) (n : ℕ) (number : n ≢ 0) (c size : ℕ) (k : Kind) (no_directory : k ≢ kind.Directory) where
   abbrev fs : ℕ
   fs = tree.fs.number
@@ -102,60 +152,35 @@ module _ (T : Types) (tree : Tree) (known : IsLayout) (n : ℕ) (number : n ≢ 
     abbrev content : ℕ → List ℕ
     content = readable old fs
 
-    abbrev b : ℕ
-    b = block_numbered content top n
-
-    abbrev was : Fields
-    was = fields_of (content b)
+    abbrev in_block : ℕ
+    in_block = block_numbered content top n
 
     abbrev act : Act
-    act = patch_act (bucket_block content b (bucket_at first)) (one_patch (bucket_start (bucket_at first) + place_in_bucket first) bytes) behind
+    act = patch_act (bucket_block content in_block (bucket_at first)) (one_patch (bucket_start (bucket_at first) + place_in_bucket first) bytes) behind
 
     v : IsVolume node inode (kinds old fs) content top
     v = at.here.volume
 
-    b_there : b ≢ 0
+    b_there : in_block ≢ 0
     b_there z = at.there (sym at.block ∙ z)
 
-    abbrev put : ℕ → List ℕ
-    put = put_new node inode top (kinds old fs) content v known n number b_there bytes range some first few fits there behind
-
-    fine : was.size ≤ greatest_size
+    fine : (fields_of (content in_block)).size ≤ greatest_size
     fine = subst (λ s. s ≤ greatest_size) (sym at.size_is) small
+
+    beyond : (fields_of (content in_block)).size ≤ first
+    beyond = subst (λ s. s ≤ first) (sym at.size_is) past
+
+    abbrev next : ℕ → List ℕ
+    next = put node inode top (kinds old fs) content v known n number b_there k at.kind_is no_directory first bytes range some few fits there beyond fine behind
 
     keep : All KeepsBlocks (act ∷ [])
     keep = All-cons KeepsBlocks act [] refl (All-nil KeepsBlocks)
 
-    read : IsConsistent T new × (readable new fs ≡ put) × (kinds new fs ≡ kinds old fs)
+    read : IsConsistent T new × (readable new fs ≡ next) × (kinds new fs ≡ kinds old fs)
     read = acts_read T fs (act ∷ []) old new at.here.store keep ran
 
-    numbered : block_numbered put top n ≡ b
-    numbered = numbered_same node inode top (kinds old fs) content put v.typed
-        (put_in node inode top (kinds old fs) content v known n number b_there bytes range some first few fits there behind).keeps n
-
-    fields : fields_of (put (block_numbered put top n)) ≡ was
-    fields = ap (λ x. fields_of (put x)) numbered
-        ∙ (put_in node inode top (kinds old fs) content v known n number b_there bytes range some first few fits there behind).fields
-
-    content_same : (k : Kind) → k ≢ kind.Directory →
-        with_bytes (put_within first bytes) (content_at content (key_in content top) b was.parent k) ≡ content_at content (key_in content top) b was.parent k
-    content_same kind.Directory other = absurd (other refl)
-    content_same kind.File other = ap File (put_same (byte_of content b) was.size first bytes (subst (λ s. s ≤ first) (sym at.size_is) past))
-    content_same kind.SymbolicLink other = ap SymbolicLink (put_same (byte_of content b) was.size first bytes (subst (λ s. s ≤ first) (sym at.size_is) past))
-
-    own : files_of content top n ≡ Some (inode_with was (content_at content (key_in content top) b was.parent k))
-    own = file_read content top n b (sym (inode_numbered content top n number)) b_there
-        ∙ ap (option_map (λ k. inode_with was (content_at content (key_in content top) b was.parent k))) at.kind_is
-
-    own_same : changed_in (with_put first bytes) (files_of content top n) ≡ files_of content top n
-    own_same = ap (changed_in (with_put first bytes)) own ∙ (ap (λ x. Some (inode_with was x)) (content_same k no_directory) ∙ sym own)
-
-    unchanged : changed_at (files_of content top) n (with_put first bytes) ≡ files_of content top
-    unchanged = fun_ext (λ m. elim (cases_eq m n) [
-      | inl is ↦ ap (λ t. if t then changed_in (with_put first bytes) (files_of content top n) else files_of content top m) (eq-eqb m n is)
-          ∙ (own_same ∙ sym (ap (files_of content top) is))
-      | inr ne ↦ ap (λ t. if t then changed_in (with_put first bytes) (files_of content top n) else files_of content top m) (ne_eqb m n ne)
-    ])
+    fields : fields_of (next (block_numbered next top n)) ≡ fields_of (content in_block)
+    fields = put_fields node inode top (kinds old fs) content v known n number b_there k at.kind_is no_directory first bytes range some few fits there beyond fine behind
 
     put_stays : Stay old new
     put_stays = (
@@ -164,15 +189,16 @@ module _ (T : Types) (tree : Tree) (known : IsLayout) (n : ℕ) (number : n ≢ 
           store = read.0;
           root = ran_root T fs (act ∷ []) old new at.here.store keep ran ∙ at.here.root;
           volume = subst (λ t. IsVolume node inode t (readable new fs) top) (sym read.2) (subst (λ m. IsVolume node inode (kinds old fs) m top) (sym read.1)
-              (volume_put node inode top (kinds old fs) content v known n number b_there bytes range some first few fits there behind fine k at.kind_is no_directory));
+              (put_volume node inode top (kinds old fs) content v known n number b_there k at.kind_is no_directory first bytes range some few fits there beyond fine behind));
         };
-        block = ap (λ m. block_numbered m top n) read.1 ∙ (numbered ∙ at.block);
+        block = ap (λ m. block_numbered m top n) read.1
+            ∙ (put_numbered node inode top (kinds old fs) content v known n number b_there k at.kind_is no_directory first bytes range some few fits there beyond fine behind ∙ at.block);
         there = at.there;
         size_is = ap (λ m. (fields_of (m (block_numbered m top n))).size) read.1 ∙ (ap (λ (f : Fields). f.size) fields ∙ at.size_is);
         kind_is = ap (λ m. kind_of (fields_of (m (block_numbered m top n))).mode) read.1 ∙ (ap (λ (f : Fields). kind_of f.mode) fields ∙ at.kind_is);
       },
       ap (λ m. files_of m top) read.1
-          ∙ (files_put node inode top (kinds old fs) content v known n number b_there bytes range some first few fits there behind fine k at.kind_is no_directory ∙ unchanged),
+          ∙ put_files node inode top (kinds old fs) content v known n number b_there k at.kind_is no_directory first bytes range some few fits there beyond fine behind,
     )
 
   abbrev end : ℕ

@@ -7,10 +7,12 @@ use Rattle.treefs_format.specs.declared.kind.Kind.{Kind}
 use Rattle.treefs_format.specs.declared.kind.Kind.TheVariants as kind
 use Rattle.treefs_model.specs.Files.{and_then}
 use Rattle.treefs_model.specs.declared.fault.Fault.{Fault}
-use Rattle.treefs_lookup.specs.Inodes.{if_bytes, inode_found}
+use Rattle.treefs_lookup.specs.Inodes.{file_found, if_bytes, inode_found}
 use Rattle.treefs_lookup.specs.Readable.{readable}
 use Rattle.treefs_lookup.specs.declared.inodes.Found.{Found}
-use Rattle.treefs_byte_plans.specs.Kept.{kept_of}
+use Rattle.treefs_edits.specs.Memories.{Memory}
+use Rattle.treefs_edits.specs.declared.tree.Tree.{Tree}
+use Rattle.treefs_byte_plans.specs.Kept.{kept_of, kept_up_to}
 use Rattle.treefs_byte_plans.specs.declared.kept.Kept.{Kept}
 use Rattle.treefs.specs.Trimming.{Answers, Blanks, Drops, HasRoom, Roots, Then, TrimCallDoes, TrimDoes, TrimsFirst, Waits, kept_in, most_drops}
 use Rattle.treefs.specs.declared.volume.Volume.{Volume}
@@ -26,6 +28,41 @@ use Rattle.treefs_laws.proofs.TrimBlanks.{blanks_stay}
 use Rattle.treefs_laws.proofs.TrimParts.{IsFileAt, Stays, both_stay, drops_stay, stays_same}
 use Rattle.treefs_laws.proofs.TrimRoots.{roots_stay}
 use Rattle.treefs_laws.proofs.TrimWaits.{waits_stay}
+
+-- A whole trim, in any state of the store
+
+module _ (T : Types) (tree : Tree) (known : IsLayout) (n : ℕ) (number : n ≢ 0) (c size : ℕ) (k : Kind) (no_directory : k ≢ kind.Directory) (memory : Memory) where
+  abbrev own : ℕ
+  own = tree.fs.number
+
+  abbrev all_kept : Kept
+  all_kept = kept_up_to c size
+
+  abbrev At : StoreState → Type 0
+  At s = IsFileAt T tree known n number c size k no_directory s
+
+  abbrev Stay : StoreState → StoreState → Type 0
+  Stay old new = Stays T tree known n number c size k no_directory old new
+
+  room : (old new : StoreState) (result : Result (Unit {0}) Fault) → At old → HasRoom own memory all_kept old new result → Stay old new
+  room old new result at does = stays_same T tree known n number c size k no_directory old new at does.1
+
+  two : (First Next : StoreState → StoreState → Result (Unit {0}) Fault → Type 0) →
+      ((old new : StoreState) (result : Result (Unit {0}) Fault) → At old → First old new result → Stay old new) →
+      ((old new : StoreState) (result : Result (Unit {0}) Fault) → At old → Next old new result → Stay old new) →
+      (old new : StoreState) (result : Result (Unit {0}) Fault) → At old → Then First Next old new result → Stay old new
+  two = both_stay T tree known n number c size k no_directory
+
+  pub trim_stays : (old new : StoreState) (result : Result (Unit {0}) Fault) → At old → TrimDoes T own memory (kept_up_to c size) old new result → Stay old new
+  trim_stays =
+      two (HasRoom own memory all_kept) (Then (Blanks T own memory all_kept) (Then (Drops T own memory all_kept most_drops) (Then (Roots T own all_kept) (Waits T own all_kept)))) room
+      (two (Blanks T own memory all_kept) (Then (Drops T own memory all_kept most_drops) (Then (Roots T own all_kept) (Waits T own all_kept)))
+      (blanks_stay T tree known n number c size k no_directory memory)
+      (two (Drops T own memory all_kept most_drops) (Then (Roots T own all_kept) (Waits T own all_kept))
+      (drops_stay T tree known n number c size k no_directory all_kept.keep (byte_kept size) memory all_kept refl refl most_drops)
+      (two (Roots T own all_kept) (Waits T own all_kept)
+      (roots_stay T tree known n number c size k no_directory all_kept.keep (byte_kept size) all_kept refl refl)
+      (waits_stay T tree known n number c size k no_directory all_kept refl))))
 
 module _ (T : Types) (known : IsLayout) (state : StoreState) (volume : Volume) (is_open : IsOpen T state volume) where
   abbrev fs : ℕ
@@ -50,17 +87,27 @@ module _ (T : Types) (known : IsLayout) (state : StoreState) (volume : Volume) (
   bytes_kind x found kind.File e = (same_done x found e, λ z. absurd (cc z))
   bytes_kind x found kind.SymbolicLink e = (same_done x found e, λ z. absurd (cc z))
 
-  pub file_of : (kept : Kept) → IsKeptOf state volume kept → IsFile kept
-  file_of kept (n, found, is, kept_is) =
+  pub record IsFileFound (n : ℕ) (found : Found) : Type 0 where
+    pub here : inode_found content top n ≡ Ok found
+    pub is : IsFound content top n found
+    pub no_directory : found.kind ≢ kind.Directory
+
+  pub found_file : (n : ℕ) (found : Found) → file_found content top n ≡ Ok found → IsFileFound n found
+  found_file n found is =
       let x = then_ok (inode_found content top n) (λ (x : Found). if_bytes x x.kind) found is in
       let k = bytes_kind x.0 found x.0.kind x.2 in
       let here : inode_found content top n ≡ Ok found = x.1 ∙ ap Ok k.0 in
-      let f : IsFound content top n found = found_inode content top n found here in
+      record { here = here; is = found_inode content top n found here; no_directory = λ z. k.1 (ap (λ (y : Found). y.kind) k.0 ∙ z) }
+
+  pub file_of : (kept : Kept) → IsKeptOf state volume kept → IsFile kept
+  file_of kept (n, found, is, kept_is) =
+      let x = found_file n found is in
+      let f : IsFound content top n found = x.is in
       record {
         number = n;
         some = f.number;
         found = found;
-        no_directory = λ z. k.1 (ap (λ (y : Found). y.kind) k.0 ∙ z);
+        no_directory = x.no_directory;
         at = record {
           here = record { store = is_open.kept.store; root = is_open.root; volume = is_open.kept.bytes };
           block = sym f.block;
@@ -115,45 +162,12 @@ module _ (T : Types) (known : IsLayout) (state : StoreState) (volume : Volume) (
       said_of kept f new (roots_stay T volume.tree known f.number f.some f.found.block f.found.fields.size f.found.kind f.no_directory
       (kept_of f.found).keep (byte_kept f.found.fields.size) kept (ap (λ x. x.inode) f.kept_is) (ap (λ x. x.keep) f.kept_is) state new result f.at does)
 
-  -- A whole trim
-
-  module _ (kept : Kept) (f : IsFile kept) where
-    abbrev k : Kept
-    k = kept_of f.found
-
-    abbrev At : StoreState → Type 0
-    At s = IsFileAt T volume.tree known f.number f.some f.found.block f.found.fields.size f.found.kind f.no_directory s
-
-    abbrev Stay : StoreState → StoreState → Type 0
-    Stay old new = Stays T volume.tree known f.number f.some f.found.block f.found.fields.size f.found.kind f.no_directory old new
-
-    room : (old new : StoreState) (result : Result (Unit {0}) Fault) → At old → HasRoom fs volume.memory k old new result → Stay old new
-    room old new result at does = stays_same T volume.tree known f.number f.some f.found.block f.found.fields.size f.found.kind f.no_directory old new at does.1
-
-    two : (First Next : StoreState → StoreState → Result (Unit {0}) Fault → Type 0) →
-        ((old new : StoreState) (result : Result (Unit {0}) Fault) → At old → First old new result → Stay old new) →
-        ((old new : StoreState) (result : Result (Unit {0}) Fault) → At old → Next old new result → Stay old new) →
-        (old new : StoreState) (result : Result (Unit {0}) Fault) → At old → Then First Next old new result → Stay old new
-    two = both_stay T volume.tree known f.number f.some f.found.block f.found.fields.size f.found.kind f.no_directory
-
-    trim_stays : (new : StoreState) (result : Result (Unit {0}) Fault) → TrimDoes T fs volume.memory k state new result → Stay state new
-    trim_stays new result does =
-        two (HasRoom fs volume.memory k)
-        (Then (Blanks T fs volume.memory k) (Then (Drops T fs volume.memory k most_drops) (Then (Roots T fs k) (Waits T fs k)))) room
-        (two (Blanks T fs volume.memory k) (Then (Drops T fs volume.memory k most_drops) (Then (Roots T fs k) (Waits T fs k)))
-        (blanks_stay T volume.tree known f.number f.some f.found.block f.found.fields.size f.found.kind f.no_directory volume.memory)
-        (two (Drops T fs volume.memory k most_drops) (Then (Roots T fs k) (Waits T fs k))
-        (drops_stay T volume.tree known f.number f.some f.found.block f.found.fields.size f.found.kind f.no_directory k.keep (byte_kept f.found.fields.size) volume.memory k refl refl most_drops)
-        (two (Roots T fs k) (Waits T fs k)
-        (roots_stay T volume.tree known f.number f.some f.found.block f.found.fields.size f.found.kind f.no_directory k.keep (byte_kept f.found.fields.size) k refl refl)
-        (waits_stay T volume.tree known f.number f.some f.found.block f.found.fields.size f.found.kind f.no_directory k refl))))
-        state new result f.at does
-
   pub trim_said : (kept : Option Kept) → AreKeptOf state volume kept → (new : StoreState) (result : Result (Unit {0}) Fault) → TrimsFirst T fs volume.memory kept state new result → Said new
   trim_said None of new result does = same_said new does.1
   trim_said (Some kept) of new result does =
       let f = file_of kept of in
-      said_of kept f new (trim_stays kept f new result (subst (λ x. TrimDoes T fs volume.memory x state new result) f.kept_is does))
+      said_of kept f new (trim_stays T volume.tree known f.number f.some f.found.block f.found.fields.size f.found.kind f.no_directory volume.memory state new result f.at
+      (subst (λ x. TrimDoes T fs volume.memory x state new result) f.kept_is does))
 
   -- The call
 

@@ -7,8 +7,8 @@ ghost use Rattle.xn_model.specs.Lives.{StoreState};
 ghost use Rattle.store_types.specs.declared.refusal.Refusal.{Refusal};
 ghost use Rattle.treefs_format.specs.declared.kind.Kind.{Kind};
 ghost use Rattle.treefs_format.specs.declared.kind.Kind.TheVariants as kinds;
-ghost use Rattle.treefs_model.specs.Changes.{IsListing, linked, new_name, read, removed, replaced, target, unlinked, with_mtime};
-ghost use Rattle.treefs_model.specs.Files.{Directory, File, Inode, Names, SymbolicLink, and_then, changed_at, found, number_in};
+ghost use Rattle.treefs_model.specs.Changes.{IsListing, linked, new_name, read, removed, replaced, target, truncated, unlinked, with_mtime};
+ghost use Rattle.treefs_model.specs.Files.{Directory, File, Inode, Names, SymbolicLink, and_then, changed_at, file_at, found, number_in};
 ghost use Rattle.treefs_model.specs.declared.fault.Fault.{Fault};
 ghost use Rattle.treefs_model.specs.declared.fault.Fault.TheVariants.{Full, Kernel};
 ghost use Rattle.treefs_lookup.specs.Bytes.{read_count, read_into};
@@ -22,6 +22,7 @@ ghost use Rattle.treefs.specs.Linking.{LinkDoes};
 ghost use Rattle.treefs.specs.Reads.{lookup_of, stat_of};
 ghost use Rattle.treefs.specs.Renaming.{RenameDoes};
 ghost use Rattle.treefs.specs.Setting.{AttributesDoes, MtimeDoes};
+ghost use Rattle.treefs.specs.Sizing.{TruncateDoes};
 ghost use Rattle.treefs.specs.Trimming.{Blanks, Drops, Roots, TrimCallDoes, TrimsFirst, Waits};
 ghost use Rattle.treefs.specs.Unlinking.{RmdirDoes, UnlinkDoes};
 ghost use Rattle.treefs.specs.WritingTimes.{WriteTimesDoes};
@@ -331,3 +332,19 @@ pub fn what_is_trimmed_first_is_of_a_file()
     ensures write { (state : StoreState) (volume : Volume) (number at count : ℕ) (kept : Option Kept) →
         IsTrimToWrite (readable state volume.tree.fs.number) volume.tree.top number at count kept → AreKeptOf state volume kept }
 {}
+
+/// `truncate` to a size that a file or a symbolic link has at least leaves so many of its bytes, and does nothing else. Where it is refused the files are as they
+/// were, and so is the session, or, where the size was set and what stands past it could not be trimmed, they are as truncated.
+pub fn truncate_shortens_a_file()
+    ensures done { (T : Types) (old new : StoreState) (volume volume' : Volume) (number size : ℕ) → IsOpen T old volume →
+        ((bytes : List ℕ) → file_at (files_in old volume) number ≡ Ok bytes → size ≤ length bytes) →
+        TruncateDoes T old new volume volume' number size (Ok tt) →
+        IsOpen T new volume' × (truncated (files_in old volume) volume.memory.clock number size ≡ Ok (files_in new volume')) }
+    ensures refused { (T : Types) (old new : StoreState) (volume volume' : Volume) (number size : ℕ) (fault : Fault) → IsOpen T old volume →
+        ((bytes : List ℕ) → file_at (files_in old volume) number ≡ Ok bytes → size ≤ length bytes) →
+        TruncateDoes T old new volume volume' number size (Err fault) →
+        ((volume' ≡ volume) × IsOpen T new volume × (files_in new volume ≡ files_in old volume))
+        ⊎ (IsOpen T new volume' × (truncated (files_in old volume) volume.memory.clock number size ≡ Ok (files_in new volume'))) }
+{
+    layout_is_known();
+}

@@ -13,7 +13,7 @@ pub use Rattle.treefs_values.proofs.LookUps.{inodes_found, numbers_found, number
 -- edits of one block
 pub use Rattle.treefs_values.proofs.NamesEnd.{links_make, name_ended, name_led, same_size}
 pub use Rattle.treefs_values.proofs.Readings.{acts_read}
-pub use Rattle.treefs_values.proofs.ManyChanges.{fields_changed}
+pub use Rattle.treefs_values.proofs.ManyChanges.{changes_keep, fields_changed, file_resized}
 pub use Rattle.treefs_values.proofs.NewInodes.{bare_inode, bare_node, inode_small, node_small}
 pub use Rattle.treefs_values.proofs.PointerSet.{inode_offset, low_offset}
 -- edits one after another
@@ -29,10 +29,9 @@ pub use Rattle.treefs_values.proofs.FoundStill.{entry_still, found_still}
 pub use Rattle.treefs_values.proofs.Moving.{Stands, same_bucket, stands_alike, stands_found, stands_names, stands_other, stands_there}
 pub use Rattle.treefs_values.proofs.Moving.{placed_keeps, rewriting_numbered, rewriting_own, rewriting_stands, set_beside, set_directory, set_files, set_numbered, set_others, set_place, set_volume, written_twice}
 -- blocks that are dropped, and bytes that are put
-pub use Rattle.treefs_values.proofs.Cleared.{KeepsFields, cleared_whole, pointers_cleared}
+pub use Rattle.treefs_values.proofs.Cleared.{cleared_whole, pointers_cleared}
 pub use Rattle.treefs_values.proofs.DroppedRead.{IsDrop, drop_is}
-pub use Rattle.treefs_values.proofs.Dropping.{byte_fades, dropped_fields, dropped_files, dropped_numbered, dropped_volume}
-pub use Rattle.treefs_values.proofs.BytesPut.{byte_put, new as put_new, put_in}
-pub use Rattle.treefs_values.proofs.BytesWritten.{files_put, same_listed, volume_put}
-pub use Rattle.treefs_values.proofs.Putting.{IsPut}
+pub use Rattle.treefs_values.proofs.Dropping.{dropped_fields, dropped_files, dropped_numbered, dropped_volume}
+pub use Rattle.treefs_values.proofs.BytesPut.{new as put_new, put_in}
+pub use Rattle.treefs_values.proofs.BytesWritten.{files_put, listed_resized, same_listed, volume_put}
 pub use Rattle.treefs_values.proofs.Ways.{inode_pointer, node_pointer, numbered_same, tree_way}
