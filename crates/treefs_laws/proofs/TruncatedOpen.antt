@@ -124,11 +124,16 @@ module _ (node inode top : ℕ) (type : ℕ → ℕ) (content : ℕ → List ℕ
       let block_there : bucket_block first (block_numbered first top n) (bucket_at size) ≢ 0 = λ z. there (is_block ∙ z) in
       subst (λ (a : Act). IsSizeSet (written a first)) (sym (λ j. patch_act (is_block j) (one_patch (bucket_start (sym bucket j) + sym at_place j) (replicate (512 - (128 + size)) 0)) None))
       (record {
-        volume = put_volume node inode top type first s.volume known n number b_there k s.kind_so no_directory size (replicate (512 - (128 + size)) 0) range some few_buckets room block_there past small None;
-        numbered = put_numbered node inode top type first s.volume known n number b_there k s.kind_so no_directory size (replicate (512 - (128 + size)) 0) range some few_buckets room block_there past small None ∙ s.numbered;
-        size_is = ap (λ (f : Fields). f.size) (put_fields node inode top type first s.volume known n number b_there k s.kind_so no_directory size (replicate (512 - (128 + size)) 0) range some few_buckets room block_there past small None) ∙ s.size_is;
-        kind_so = ap (λ (f : Fields). kind_of f.mode) (put_fields node inode top type first s.volume known n number b_there k s.kind_so no_directory size (replicate (512 - (128 + size)) 0) range some few_buckets room block_there past small None) ∙ s.kind_so;
-        files = put_files node inode top type first s.volume known n number b_there k s.kind_so no_directory size (replicate (512 - (128 + size)) 0) range some few_buckets room block_there past small None ∙ s.files;
+        volume = put_volume node inode top type first s.volume known n number b_there k s.kind_so no_directory size
+            (replicate (512 - (128 + size)) 0) range some few_buckets room block_there past small None;
+        numbered = put_numbered node inode top type first s.volume known n number b_there k s.kind_so no_directory size
+            (replicate (512 - (128 + size)) 0) range some few_buckets room block_there past small None ∙ s.numbered;
+        size_is = ap (λ (f : Fields). f.size) (put_fields node inode top type first s.volume known n number b_there k s.kind_so no_directory size
+            (replicate (512 - (128 + size)) 0) range some few_buckets room block_there past small None) ∙ s.size_is;
+        kind_so = ap (λ (f : Fields). kind_of f.mode) (put_fields node inode top type first s.volume known n number b_there k s.kind_so no_directory size
+            (replicate (512 - (128 + size)) 0) range some few_buckets room block_there past small None) ∙ s.kind_so;
+        files = put_files node inode top type first s.volume known n number b_there k s.kind_so no_directory size
+            (replicate (512 - (128 + size)) 0) range some few_buckets room block_there past small None ∙ s.files;
       })
 
   abbrev cp : Patch
@@ -173,16 +178,20 @@ module _ (T : Types) (known : IsLayout) (state : StoreState) (volume : Volume) (
   few = omega arith
 
   abbrev IsSet : (ℕ → List ℕ) → Type 0
-  IsSet m = IsSizeSet volume.tree.node_type volume.tree.inode_type top type content is_open.kept.bytes known n found_there.number found_there.there size clock is_open.kept.session.clock few x.kind found_there.kind file_there.no_directory m
+  IsSet m = IsSizeSet volume.tree.node_type volume.tree.inode_type top type content is_open.kept.bytes known n found_there.number
+      found_there.there size clock is_open.kept.session.clock few x.kind found_there.kind file_there.no_directory m
 
   abbrev after : Inode → Inode
-  after = to_size volume.tree.node_type volume.tree.inode_type top type content is_open.kept.bytes known n found_there.number found_there.there size clock is_open.kept.session.clock few x.kind found_there.kind file_there.no_directory
+  after = to_size volume.tree.node_type volume.tree.inode_type top type content is_open.kept.bytes known n found_there.number
+      found_there.there size clock is_open.kept.session.clock few x.kind found_there.kind file_there.no_directory
 
   abbrev was_value : Inode
-  was_value = value volume.tree.node_type volume.tree.inode_type top type content is_open.kept.bytes known n found_there.number found_there.there size clock is_open.kept.session.clock few x.kind found_there.kind file_there.no_directory
+  was_value = value volume.tree.node_type volume.tree.inode_type top type content is_open.kept.bytes known n found_there.number
+      found_there.there size clock is_open.kept.session.clock few x.kind found_there.kind file_there.no_directory
 
   value_there : files_of content top n ≡ Some was_value
-  value_there = value_is volume.tree.node_type volume.tree.inode_type top type content is_open.kept.bytes known n found_there.number found_there.there size clock is_open.kept.session.clock few x.kind found_there.kind file_there.no_directory
+  value_there = value_is volume.tree.node_type volume.tree.inode_type top type content is_open.kept.bytes known n found_there.number
+      found_there.there size clock is_open.kept.session.clock few x.kind found_there.kind file_there.no_directory
 
   abbrev plan : SizePlan
   plan = planned_size content volume.memory x size
@@ -199,8 +208,10 @@ module _ (T : Types) (known : IsLayout) (state : StoreState) (volume : Volume) (
       by true true e is = (sym (same_Some (128 + size) o is), ltb-true size 384 (and_parts (nat_lt size 384) (not (blank (bytes_past content x.block size))) e).0)
 
   act_is : size_act plan ≡ patch_act (block_numbered content top n)
-      (changes_patch (size_changes (changed_size (fields_of (content (block_numbered content top n))).size size) (record { mtime = clock; ctime = clock })) ∷ zero_parts (blank_from content x size)) None
-  act_is = (λ j. patch_act (found_there.block j) (changes_patch (size_changes (changed_size (found_there.fields j).size size) (times_now volume.memory)) ∷ zero_parts (blank_from content x size)) None)
+      (changes_patch (size_changes (changed_size (fields_of (content (block_numbered content top n))).size size) (record { mtime = clock; ctime = clock })) ∷
+      zero_parts (blank_from content x size)) None
+  act_is = (λ j. patch_act (found_there.block j) (changes_patch (size_changes (changed_size (found_there.fields j).size size) (times_now volume.memory)) ∷
+      zero_parts (blank_from content x size)) None)
 
   module _ (set : StoreState) (ran : Ran T fs (size_act plan ∷ []) state set (Ok tt)) where
     keep : All KeepsBlocks (size_act plan ∷ [])
@@ -211,7 +222,8 @@ module _ (T : Types) (known : IsLayout) (state : StoreState) (volume : Volume) (
 
     is_set : IsSet (readable set fs)
     is_set = subst IsSet (sym (read.1 ∙ ap (λ a. written a content) act_is))
-        (parts_set volume.tree.node_type volume.tree.inode_type top type content is_open.kept.bytes known n found_there.number found_there.there size clock is_open.kept.session.clock few x.kind found_there.kind file_there.no_directory
+        (parts_set volume.tree.node_type volume.tree.inode_type top type content is_open.kept.bytes known n found_there.number
+        found_there.there size clock is_open.kept.session.clock few x.kind found_there.kind file_there.no_directory
         (blank_from content x size) blanks)
 
     root : root_of set fs ≡ Some top
@@ -241,7 +253,8 @@ module _ (T : Types) (known : IsLayout) (state : StoreState) (volume : Volume) (
           ctime = (written_now n (record { mtime = clock; ctime = clock }) (record { mtime = clock; ctime = clock }) volume.memory.touched is_open.kept.session.once j).ctime;
         })
         ∙ ap (λ y. record was_value { mtime = clock; ctime = clock; content = y })
-        (bytes_then volume.tree.node_type volume.tree.inode_type top type content is_open.kept.bytes known n found_there.number found_there.there size clock is_open.kept.session.clock few x.kind found_there.kind file_there.no_directory
+        (bytes_then volume.tree.node_type volume.tree.inode_type top type content is_open.kept.bytes known n found_there.number
+        found_there.there size clock is_open.kept.session.clock few x.kind found_there.kind file_there.no_directory
         (λ p low high. let was : x.fields.size ≡ (fields_of (content (block_numbered content top n))).size = ap (λ (g : Fields). g.size) found_there.fields in absurd (omega arith))))
 
     pub set_files : files_in set later ≡ changed_at seen n (rewritten clock (resized size))
@@ -267,7 +280,8 @@ module _ (T : Types) (known : IsLayout) (state : StoreState) (volume : Volume) (
       short = is_open.short;
       root = root;
       touched = all_written_out (λ touch. files_in set later touch.number ≢ None) n volume.memory.touched
-          (All-weaker (λ (touch : Touched). seen touch.number ≢ None) (λ touch. files_in set later touch.number ≢ None) (λ touch some. stays touch.number some) volume.memory.touched is_open.touched);
+          (All-weaker (λ (touch : Touched). seen touch.number ≢ None) (λ touch. files_in set later touch.number ≢ None)
+          (λ touch some. stays touch.number some) volume.memory.touched is_open.touched);
     }
 
     -- and then what stands past it is trimmed

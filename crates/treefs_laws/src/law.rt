@@ -297,8 +297,8 @@ pub fn open_volumes_stay_open()
     modes_are_read_back();
 }
 
-/// The parts of a trim of a file or a symbolic link change no file, whatever they answer: the one that makes bytes past the size 0, the one that drops pointers of
-/// nodes, however many drops are left, the one that drops pointers of the inode, and the one that ends it.
+/// The parts of a trim of a file or a symbolic link change no file, whatever they answer: the one that makes bytes past the size 0, the one that drops pointers
+/// of nodes, however many drops are left, the one that drops pointers of the inode, and the one that ends it.
 pub fn parts_of_a_trim_change_no_file()
     ensures blanks { (T : Types) (old new : StoreState) (volume : Volume) (kept : Kept) (result : Result (Unit {0}) Fault) → IsOpen T old volume →
         IsKeptOf old volume kept → Blanks T volume.tree.fs.number volume.memory kept old new result →
@@ -333,8 +333,8 @@ pub fn what_is_trimmed_first_is_of_a_file()
         IsTrimToWrite (readable state volume.tree.fs.number) volume.tree.top number at count kept → AreKeptOf state volume kept }
 {}
 
-/// `truncate` to a size that a file or a symbolic link has at least leaves so many of its bytes, and does nothing else. Where it is refused the files are as they
-/// were, and so is the session, or, where the size was set and what stands past it could not be trimmed, they are as truncated.
+/// `truncate` to a size that a file or a symbolic link has at least leaves so many of its bytes, and does nothing else. Where it is refused the files and the
+/// session are as they were, or, where the size was set and what stands past it could not be trimmed, the files are as truncated.
 pub fn truncate_shortens_a_file()
     ensures done { (T : Types) (old new : StoreState) (volume volume' : Volume) (number size : ℕ) → IsOpen T old volume →
         ((bytes : List ℕ) → file_at (files_in old volume) number ≡ Ok bytes → size ≤ length bytes) →

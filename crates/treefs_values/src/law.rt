@@ -310,8 +310,8 @@ pub fn dropped_blocks_are_not_pointed_to()
     inode_pointers_are_set();
 }
 
-/// Pointers of the inode of a file or a symbolic link, or of a node of its tree, come to lead nowhere, and the blocks to which they led may not be read any more;
-/// none of them leads on to a byte before the size: the files are as before.
+/// Pointers of the inode of a file or a symbolic link, or of a node of its tree, come to lead nowhere, and the blocks to which they led may not be read any
+/// more; none of them leads on to a byte before the size: the files are as before.
 pub fn dropped_blocks_change_no_file()
     ensures { (node inode top : ℕ) (type type' : ℕ → ℕ) (content new : ℕ → List ℕ) → IsVolume node inode type content top → (n : ℕ) (above : List ℕ)
         (places : List (ℕ × ℕ)) (kind : Kind) → n ≢ 0 → let c = block_numbered content top n in kind_of (fields_of (content c)).mode ≡ Some kind →
