@@ -12,7 +12,7 @@ pub use Rattle.treefs_values.proofs.FoundEntries.{IsEntry, IsFound, directory_is
 pub use Rattle.treefs_values.proofs.LookUps.{inodes_found, numbers_found, numbers_named}
 -- edits of one block
 pub use Rattle.treefs_values.proofs.NamesEnd.{links_make, name_ended, name_led, same_size}
-pub use Rattle.treefs_values.proofs.Readings.{acts_read}
+pub use Rattle.treefs_values.proofs.Readings.{acts_read, kinds_are, may_read, readable_is}
 pub use Rattle.treefs_values.proofs.ManyChanges.{changes_keep, fields_changed, file_resized}
 pub use Rattle.treefs_values.proofs.NewInodes.{bare_inode, bare_node, inode_small, node_small}
 pub use Rattle.treefs_values.proofs.PointerSet.{inode_offset, low_offset}

@@ -1,0 +1,4 @@
+mod Flushed
+mod Done
+mod Room
+mod Names

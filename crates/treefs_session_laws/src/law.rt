@@ -1,0 +1,91 @@
+// Laws of sessions.
+
+ghost use Rattle.std.specs.Prelude.{◌≡◌, ℕ, ◌<◌, All, Bool, Err, List, Ok, Result, true};
+ghost use Rattle.xn_model.specs.Types.{Types};
+ghost use Rattle.xn_model.specs.Lives.{StoreState};
+ghost use Rattle.store_types.specs.declared.refusal.Refusal.{Refusal};
+ghost use Rattle.xn_kernel.specs.FlushedStates.{StateRefuses, StateWaves};
+ghost use Rattle.treefs_model.specs.Changes.{linked, removed, unlinked};
+ghost use Rattle.treefs_model.specs.Files.{number_in};
+ghost use Rattle.treefs_model.specs.declared.fault.Fault.{Fault};
+ghost use Rattle.treefs_model.specs.declared.fault.Fault.TheVariants.{Full};
+ghost use Rattle.treefs.specs.Linking.{LinkDoes};
+ghost use Rattle.treefs.specs.Unlinking.{RmdirDoes, UnlinkDoes};
+ghost use Rattle.treefs.specs.declared.volume.Volume.{Volume};
+ghost use Rattle.treefs_laws.specs.Kept.{HasNoNames, files_in};
+ghost use Rattle.treefs_laws.specs.Open.{IsOpen};
+ghost use Rattle.treefs_session.specs.Tries.{MakesRoom, Tries};
+ghost use Rattle.treefs_session_laws.specs.Before.{IsAsBefore};
+
+use flush_store::law::flushes_keep_newest;
+use treefs_laws::law::{
+    link_makes_a_name, open_volumes_stay_open, refused_link_answers_the_files,
+    refused_rmdir_answers_the_files, refused_unlink_answers_the_files,
+    rmdir_ends_an_empty_directory, unlink_ends_a_name, write_times_changes_no_file,
+};
+use treefs_session::Call;
+
+/// A flush changes no file, whether it ends, is refused or stops.
+pub fn flushes_change_no_file()
+    ensures waves { (T : Types) (old new : StoreState) (volume : Volume) (waves : ℕ) → IsOpen T old volume → StateWaves waves old new →
+        IsAsBefore T old new volume volume }
+    ensures refused { (T : Types) (old new : StoreState) (volume : Volume) (refusal : Refusal) → IsOpen T old volume → StateRefuses old refusal new →
+        IsAsBefore T old new volume volume }
+{
+    flushes_keep_newest();
+}
+
+/// What is done to make room for a call changes no file, whatever it answers.
+pub fn making_room_changes_no_file()
+    ensures { (T : Types) (old new : StoreState) (volume volume' : Volume) (result : Result Bool Fault) → IsOpen T old volume →
+        MakesRoom T old new volume volume' result → IsAsBefore T old new volume volume' }
+{
+    flushes_change_no_file();
+    write_times_changes_no_file();
+}
+
+/// A call that is made until it has room is done once, on a volume that is as before: told is that it leaves the volume so where it is full.
+pub fn calls_are_done_once<C: Call>()
+    ensures { (T : Types) (call : C) (left : ℕ) (old new : StoreState) (volume volume' : Volume) (answer : C.Answer) →
+        ((before after : StoreState) (v v' : Volume) → IsOpen T before v → C.does call T before after v v' (Err Full) → IsAsBefore T before after v v') →
+        IsOpen T old volume → Tries (C.does call T) T left old new volume volume' (Ok answer) →
+        (middle : StoreState) × (between : Volume) × IsAsBefore T old middle volume between × C.does call T middle new between volume' (Ok answer) }
+{
+    making_room_changes_no_file();
+}
+
+/// `unlink`, made until it has room, ends the name and does nothing else: the files are those of before, but for this name.
+pub fn unlink_is_done_once()
+    ensures { (T : Types) (left : ℕ) (old new : StoreState) (volume volume' : Volume) (d : ℕ) (name : List ℕ) → IsOpen T old volume →
+        Tries (λ s s' v v' result. UnlinkDoes T s s' v v' d name result) T left old new volume volume' (Ok tt) →
+        IsOpen T new volume' × (unlinked (files_in old volume) volume.memory.clock d name ≡ Ok (files_in new volume')) }
+{
+    making_room_changes_no_file();
+    refused_unlink_answers_the_files();
+    unlink_ends_a_name();
+    open_volumes_stay_open();
+}
+
+/// `rmdir`, made until it has room, ends the name of a directory in which no name stands, and does nothing else.
+pub fn rmdir_is_done_once()
+    ensures { (T : Types) (left : ℕ) (old new : StoreState) (volume volume' : Volume) (d : ℕ) (name : List ℕ) → IsOpen T old volume →
+        Tries (λ s s' v v' result. RmdirDoes T s s' v v' d name result) T left old new volume volume' (Ok tt) →
+        IsOpen T new volume' × (n : ℕ) × (number_in (files_in old volume) d name ≡ Ok n) × HasNoNames (files_in old volume) n
+        × (removed (files_in old volume) volume.memory.clock d name true ≡ Ok (files_in new volume')) }
+{
+    making_room_changes_no_file();
+    refused_rmdir_answers_the_files();
+    rmdir_ends_an_empty_directory();
+    open_volumes_stay_open();
+}
+
+/// `link`, made until it has room, makes one more name, which was free, and does nothing else.
+pub fn link_is_done_once()
+    ensures { (T : Types) (left : ℕ) (old new : StoreState) (volume volume' : Volume) (n d : ℕ) (name : List ℕ) → IsOpen T old volume →
+        All (λ b. b < 256) name → Tries (λ s s' v v' result. LinkDoes T s s' v v' n d name result) T left old new volume volume' (Ok tt) →
+        IsOpen T new volume' × (linked (files_in old volume) volume.memory.clock n d name ≡ Ok (files_in new volume')) }
+{
+    making_room_changes_no_file();
+    refused_link_answers_the_files();
+    link_makes_a_name();
+}
