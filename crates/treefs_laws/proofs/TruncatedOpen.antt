@@ -79,9 +79,6 @@ module _ (node inode top : ℕ) (type : ℕ → ℕ) (content : ℕ → List ℕ
   abbrev first : ℕ → List ℕ
   first = sized node inode top type content v known n number there size time fits few k is_kind no_directory
 
-  abbrev then_to : Inode → Inode
-  then_to = to_size node inode top type content v known n number there size time fits few k is_kind no_directory
-
   pub record IsSizeSet (m : ℕ → List ℕ) : Type 0 where
     pub volume : IsVolume node inode type m top
     pub numbered : block_numbered m top n ≡ block_numbered content top n
@@ -354,12 +351,6 @@ module _ (T : Types) (known : IsLayout) (old : StoreState) (volume : Volume) (is
   abbrev own : ℕ
   own = volume.tree.fs.number
 
-  -- it failed before the size was set, or the size was set
-  abbrev pub Ends : StoreState → Volume → Result (Unit {0}) Fault → Type 0
-  Ends new volume' result =
-      ((fault : Fault) × (result ≡ Err fault) × (volume' ≡ volume) × IsOpen T new volume × (files_in new volume ≡ files_in old volume))
-      ⊎ (IsOpen T new volume' × (truncated (files_in old volume) volume.memory.clock number size ≡ Ok (files_in new volume')))
-
   chosen_size : (t : Bool) (x y : Found) → ◌≡◌ {A = Result Found Fault} (if t then Err TooLarge else Ok x) (Ok y) → (t ≡ false) × (x ≡ y)
   chosen_size true x y e = absurd (cc e)
   chosen_size false x y e = (refl, same_done x y e)
@@ -367,6 +358,12 @@ module _ (T : Types) (known : IsLayout) (old : StoreState) (volume : Volume) (is
   chosen_plan : (t : Bool) (p q : SizePlan) → ◌≡◌ {A = Result SizePlan Fault} (if t then Ok p else Err Full) (Ok q) → p ≡ q
   chosen_plan true p q e = same_done p q e
   chosen_plan false p q e = absurd (cc e)
+
+  -- it failed before the size was set, or the size was set
+  abbrev pub Ends : StoreState → Volume → Result (Unit {0}) Fault → Type 0
+  Ends new volume' result =
+      ((fault : Fault) × (result ≡ Err fault) × (volume' ≡ volume) × IsOpen T new volume × (files_in new volume ≡ files_in old volume))
+      ⊎ (IsOpen T new volume' × (truncated (files_in old volume) volume.memory.clock number size ≡ Ok (files_in new volume')))
 
   module _ (middle new : StoreState) (volume' : Volume) (result : Result (Unit {0}) Fault) (open_there : IsOpen T middle volume) (same : files_in middle volume ≡ files_in old volume) where
     failed : (fault : Fault) → result ≡ Err fault → volume' ≡ volume → new ≡ middle → Ends new volume' result

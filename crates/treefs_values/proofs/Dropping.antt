@@ -237,9 +237,6 @@ module _ (node inode top : ℕ) (type type' : ℕ → ℕ) (old new : ℕ → Li
       by [] to some = some
       by (r ∷ rs) to some = let w = holder_node r rs to in starts node inode top type old v.types.0 v.typed v.apart n (suc w.0) (r ∷ rs) w.1 some
 
-  pub dropped_fields : fields_of (new (block_numbered old top n)) ≡ fields_of (old (block_numbered old top n))
-  dropped_fields = own_fields n there
-
   -- a byte of the inode is as it was, or 0, and then it stands in a leaf behind a pointer that went
   abbrev pub Fades : ℕ → Type 0
   Fades p = (byte_of new (block_numbered old top n) p ≡ byte_of old (block_numbered old top n) p)
@@ -270,6 +267,9 @@ module _ (node inode top : ℕ) (type type' : ℕ → ℕ) (old new : ℕ → Li
             | inl same ↦ inl (left ∙ (same ∙ sym right))
             | inr none ↦ inr (left ∙ none.0, ltb-false p 384 e, none.1, none.2, none.3)
           ]
+
+  pub dropped_fields : fields_of (new (block_numbered old top n)) ≡ fields_of (old (block_numbered old top n))
+  dropped_fields = own_fields n there
 
   module _ (k : Kind) (is_kind : kind_of (fields_of (old (block_numbered old top n))).mode ≡ Some k) (no_directory : k ≢ kind.Directory)
       (past : (o : ℕ) → IsCovered places o → IsPast (fields_of (old (block_numbered old top n))).size (o ∷ q)) where
