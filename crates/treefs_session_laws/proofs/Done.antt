@@ -43,12 +43,12 @@ module _ {A : Type 0} (T : Types) (Does : StoreState → StoreState → Volume �
     (full : (before after : StoreState) (v v' : Volume) → IsOpen T before v → Does before after v v' (Err Full) → IsAsBefore T before after v v')
     (room : (before after : StoreState) (v v' : Volume) (result : Result Bool Fault) → IsOpen T before v → MakesRoom T before after v v' result →
     IsAsBefore T before after v v') where
-  abbrev IsDone : StoreState → StoreState → Volume → Volume → A → Type 0
+  abbrev pub IsDone : StoreState → StoreState → Volume → Volume → A → Type 0
   IsDone old new volume volume' answer =
       (middle : StoreState) × (between : Volume) × IsAsBefore T old middle volume between × Does middle new between volume' (Ok answer)
 
   -- a try after which nothing is told
-  again : (old new : StoreState) (volume volume' : Volume) → IsOpen T old volume → TriesOnce Does T old new volume volume' None →
+  pub again : (old new : StoreState) (volume volume' : Volume) → IsOpen T old volume → TriesOnce Does T old new volume volume' None →
       IsAsBefore T old new volume volume'
   again old new volume volume' is_open tried = elim tried [
     | inl done ↦ absurd (cc done.1)

@@ -2,3 +2,5 @@ mod Flushed
 mod Done
 mod Room
 mod Names
+mod Space
+mod Faults

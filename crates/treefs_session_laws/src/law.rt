@@ -1,6 +1,6 @@
 // Laws of sessions.
 
-ghost use Rattle.std.specs.Prelude.{◌≡◌, ℕ, ℤ, ◌<◌, ◌≤◌, All, Bool, Err, FitsSigned, List, None, Ok, Result, [], length, true};
+ghost use Rattle.std.specs.Prelude.{◌≡◌, ℕ, ℤ, ◌<◌, ◌≤◌, All, Bool, Err, FitsSigned, false, List, None, Ok, Result, [], length, true};
 ghost use Rattle.std.specs.Int.{w64};
 ghost use Rattle.xn_model.specs.Types.{Types};
 ghost use Rattle.xn_model.specs.Lives.{StoreState};
@@ -21,6 +21,7 @@ ghost use Rattle.treefs_laws.specs.Kept.{HasNoNames, files_in};
 ghost use Rattle.treefs_laws.specs.Making.{FitsAttributes, MakesInode, new_inode};
 ghost use Rattle.treefs_laws.specs.Open.{IsOpen};
 ghost use Rattle.treefs_laws.specs.Setting.{AreInWidth, with_attributes};
+ghost use Rattle.treefs_session.specs.Freeing.{MakesFreely, lacks_space};
 ghost use Rattle.treefs_session.specs.Tries.{MakesRoom, Tries};
 ghost use Rattle.treefs_session_laws.specs.Before.{IsAsBefore};
 
@@ -64,15 +65,56 @@ pub fn calls_are_done_once<C: Call>()
     making_room_changes_no_file();
 }
 
-/// `unlink`, made until it has room, ends the name and does nothing else: the files are those of before, but for this name.
-pub fn unlink_is_done_once()
-    ensures { (T : Types) (left : ℕ) (old new : StoreState) (volume volume' : Volume) (d : ℕ) (name : List ℕ) → IsOpen T old volume →
-        Tries (λ s s' v v' result. UnlinkDoes T s s' v v' d name result) T left old new volume volume' (Ok tt) →
+/// A call that a session makes is done once, on a volume that is as before, where it never finds too little space: then nothing is freed for it. Told
+/// are that it leaves an open volume as before where it is full, and that it answers no want of space.
+pub fn calls_that_need_no_space_are_done_once<C: Call>()
+    ensures { (T : Types) (call : C) (held : List ℕ) (old new : StoreState) (volume volume' : Volume) (answer : C.Answer) →
+        ((before after : StoreState) (v v' : Volume) → IsOpen T before v → C.does call T before after v v' (Err Full) → IsAsBefore T before after v v') →
+        ((before after : StoreState) (v v' : Volume) (fault : Fault) → IsOpen T before v → C.does call T before after v v' (Err fault) →
+        lacks_space fault ≡ false) →
+        IsOpen T old volume → MakesFreely (C.does call T) T held old new volume volume' (Ok answer) →
+        (middle : StoreState) × (between : Volume) × IsAsBefore T old middle volume between × C.does call T middle new between volume' (Ok answer) }
+{
+    making_room_changes_no_file();
+}
+
+/// `unlink` by a session ends the name and does nothing else: the files are those of before, but for this name.
+pub fn sessions_end_a_name()
+    ensures { (T : Types) (held : List ℕ) (old new : StoreState) (volume volume' : Volume) (d : ℕ) (name : List ℕ) → IsOpen T old volume →
+        MakesFreely (λ s s' v v' result. UnlinkDoes T s s' v v' d name result) T held old new volume volume' (Ok tt) →
         IsOpen T new volume' × (unlinked (files_in old volume) volume.memory.clock d name ≡ Ok (files_in new volume')) }
 {
     making_room_changes_no_file();
     refused_unlink_answers_the_files();
     unlink_ends_a_name();
+    open_volumes_stay_open();
+}
+
+/// `set_attributes` by a session sets those that are told, and when the inode changed, and does nothing else.
+pub fn sessions_set_attributes()
+    ensures { (T : Types) (held : List ℕ) (old new : StoreState) (volume volume' : Volume) (n : ℕ) (attributes : Attributes) → IsOpen T old volume →
+        AreInWidth attributes →
+        MakesFreely (λ s s' v v' result. AttributesDoes T s s' v v' n attributes result) T held old new volume volume' (Ok tt) →
+        IsOpen T new volume' × (and_then (found (files_in old volume) n)
+        (λ inode. Ok (changed_at (files_in old volume) n (with_attributes volume.memory.clock attributes))) ≡ Ok (files_in new volume')) }
+{
+    making_room_changes_no_file();
+    refused_attributes_change_nothing();
+    set_attributes_sets_what_is_told();
+    open_volumes_stay_open();
+}
+
+/// `set_mtime` by a session sets when the content of an inode changed, and does nothing else.
+pub fn sessions_set_a_time()
+    ensures { (T : Types) (held : List ℕ) (old new : StoreState) (volume volume' : Volume) (n : ℕ) (mtime : ℤ) → IsOpen T old volume →
+        FitsSigned w64 mtime →
+        MakesFreely (λ s s' v v' result. MtimeDoes s v v' n mtime result × (s' ≡ s)) T held old new volume volume' (Ok tt) →
+        IsOpen T new volume' × (and_then (found (files_in old volume) n)
+        (λ inode. Ok (changed_at (files_in old volume) n (with_mtime volume.memory.clock mtime))) ≡ Ok (files_in new volume')) }
+{
+    making_room_changes_no_file();
+    refused_attributes_change_nothing();
+    set_mtime_sets_a_time();
     open_volumes_stay_open();
 }
 
@@ -134,30 +176,4 @@ pub fn symlink_is_done_once()
     making_room_changes_no_file();
     refused_new_inodes_answer_the_files();
     symlink_makes_a_link();
-}
-
-/// `set_attributes`, made until it has room, sets those that are told, and when the inode changed, and does nothing else.
-pub fn set_attributes_is_done_once()
-    ensures { (T : Types) (left : ℕ) (old new : StoreState) (volume volume' : Volume) (n : ℕ) (attributes : Attributes) → IsOpen T old volume →
-        AreInWidth attributes → Tries (λ s s' v v' result. AttributesDoes T s s' v v' n attributes result) T left old new volume volume' (Ok tt) →
-        IsOpen T new volume' × (and_then (found (files_in old volume) n)
-        (λ inode. Ok (changed_at (files_in old volume) n (with_attributes volume.memory.clock attributes))) ≡ Ok (files_in new volume')) }
-{
-    making_room_changes_no_file();
-    refused_attributes_change_nothing();
-    set_attributes_sets_what_is_told();
-    open_volumes_stay_open();
-}
-
-/// `set_mtime`, made until it has room, sets when the content of an inode changed, and does nothing else.
-pub fn set_mtime_is_done_once()
-    ensures { (T : Types) (left : ℕ) (old new : StoreState) (volume volume' : Volume) (n : ℕ) (mtime : ℤ) → IsOpen T old volume → FitsSigned w64 mtime →
-        Tries (λ s s' v v' result. MtimeDoes s v v' n mtime result × (s' ≡ s)) T left old new volume volume' (Ok tt) →
-        IsOpen T new volume' × (and_then (found (files_in old volume) n)
-        (λ inode. Ok (changed_at (files_in old volume) n (with_mtime volume.memory.clock mtime))) ≡ Ok (files_in new volume')) }
-{
-    making_room_changes_no_file();
-    refused_attributes_change_nothing();
-    set_mtime_sets_a_time();
-    open_volumes_stay_open();
 }
