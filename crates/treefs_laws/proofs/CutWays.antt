@@ -53,17 +53,17 @@ of_parts : (further : List ℕ) (p : ℕ) (ps : List ℕ) → map offset_place (
 of_parts [] p ps = of_places (p ∷ ps)
 of_parts (f ∷ further) p ps = ap (λ l. offset_place f ∷ l) (of_parts further p ps)
 
-offsets_end : (ps : List ℕ) (d : ℕ) → map node_offset (ps ++ d ∷ []) ≡ map node_offset ps ++ node_offset d ∷ []
+pub offsets_end : (ps : List ℕ) (d : ℕ) → map node_offset (ps ++ d ∷ []) ≡ map node_offset ps ++ node_offset d ∷ []
 offsets_end [] d = refl
 offsets_end (p ∷ ps) d = ap (λ l. node_offset p ∷ l) (offsets_end ps d)
 
-block_from : (content : ℕ → List ℕ) (block o : ℕ) (os : List ℕ) → block_at content block (os ++ o ∷ []) ≡ block_at content (pointed content block o) os
+pub block_from : (content : ℕ → List ℕ) (block o : ℕ) (os : List ℕ) → block_at content block (os ++ o ∷ []) ≡ block_at content (pointed content block o) os
 block_from content block o [] = refl
 block_from content block o (p ∷ os) = ap (λ c. pointed content c p) (block_from content block o os)
 
 -- Places in a tree, from its top
 
-places_end : (h r : ℕ) → h ≤ 3 → places (suc h) r ≡ places h (r % 127 ^ h) ++ (r / 127 ^ h % 127) ∷ []
+pub places_end : (h r : ℕ) → h ≤ 3 → places (suc h) r ≡ places h (r % 127 ^ h) ++ (r / 127 ^ h % 127) ∷ []
 places_end zero r low = let e : r % 127 ≡ r / 1 % 127 = omega arith in (λ j. e j ∷ [])
 places_end (suc zero) r low = let a : r % 127 ≡ r % 127 % 127 = omega arith in (λ j. a j ∷ (r / 127 % 127) ∷ [])
 places_end (suc (suc zero)) r low =

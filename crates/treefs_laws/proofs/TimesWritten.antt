@@ -49,7 +49,7 @@ use Rattle.treefs_laws.proofs.Touching.{not_there, read_behind, read_here}
 
 -- What is refused
 
-gives_none : {A : Type 0} (r : Result (A × StoreState) Refusal) (old new : StoreState) (reason : Refusal) → Gives r old new (Err reason) → new ≡ old
+pub gives_none : {A : Type 0} (r : Result (A × StoreState) Refusal) (old new : StoreState) (reason : Refusal) → Gives r old new (Err reason) → new ≡ old
 gives_none (Ok made) old new reason gives = elim gives [
   | inl done ↦ absurd (cc done.0)
   | inr none ↦ none.1

@@ -1,9 +1,9 @@
 -- Bytes past the size of a file that become 0.
 use mathlib.Core.Path.{fun_ext}
-use Rattle.std.proofs.Common.{◌≡◌, ◌≢◌, ℕ, zero, suc, ◌+◌, ◌-◌, ◌/◌, ◌%◌, ◌<◌, ◌≤◌, Bool, true, false, ◌&&◌, not, List, [], ◌∷◌, length, replicate, Option, None, Some, Result, Ok, Err, refl, sym, ◌∙◌, ap, inl, inr, subst, arith, if◌then◌else◌}
+use Rattle.std.proofs.Common.{◌≡◌, ◌≢◌, ℕ, zero, suc, ◌+◌, ◌-◌, ◌/◌, ◌%◌, ◌<◌, ◌≤◌, ◌⊎◌, Bool, true, false, ◌&&◌, not, List, [], ◌∷◌, length, replicate, Option, None, Some, Result, Ok, Err, refl, sym, ◌∙◌, ap, inl, inr, subst, arith, if◌then◌else◌}
 use Rattle.std.specs.Prelude.{All, map, nat_lt, option_map, slice_index, ◌==◌}
 use Rattle.std.specs.List.{range_with_len}
-use Rattle.std.proofs.lemmas.Bool.{and_from, and_parts, cases_eq, eq-eqb, le-ltb, lt-leb, ltb-true, lt-ltb, ne_eqb, true≢false}
+use Rattle.std.proofs.lemmas.Bool.{and_from, and_parts, cases_eq, cases_lt, eq-eqb, eqb-true, le-ltb, lt-leb, ltb-true, lt-ltb, ne_eqb, true≢false}
 use Rattle.std.proofs.lemmas.List.{length-replicate}
 use Rattle.std.proofs.lemmas.List.Elements.{All-cons, All-nil, All-replicate}
 use Rattle.std.proofs.lemmas.List.FromFn.{get_or-map-range_with_len, length-map-range_with_len}
@@ -43,6 +43,8 @@ use Rattle.treefs_values.specs.Values.{KeepsBlocks}
 use Rattle.treefs_values.specs.Volumes.{IsVolume}
 use Rattle.treefs_values.specs.Ways.{block_numbered}
 use Rattle.treefs_values.proofs.ForCallers.{acts_read, file_read, files_put, inode_numbered, numbered_same, put_in, put_new, same_listed, volume_put}
+use Rattle.treefs_laws.proofs.BytesOver.{byte_cleared, byte_fades}
+use Rattle.treefs_laws.proofs.Fading.{Fades, IsFaded, leaf_fades}
 use Rattle.treefs_laws.proofs.Planned.{ran_acts}
 use Rattle.treefs_laws.proofs.StillOpen.{ran_root}
 use Rattle.treefs_laws.proofs.TimesWritten.{refused_whole}
@@ -55,6 +57,28 @@ blank_range f zero a none = refl
 blank_range f (suc m) a none =
     and_from (f a == 0) (blank (map f (range_with_len (a + 1) m))) (eq-eqb (f a) 0 (none a (omega arith) (omega arith)))
     (blank_range f m (a + 1) (λ p low high. none p (omega arith) (omega arith)))
+
+pub blank_at : (f : ℕ → ℕ) (m a : ℕ) → blank (map f (range_with_len a m)) ≡ true → (p : ℕ) → a ≤ p → p < a + m → f p ≡ 0
+blank_at f zero a none p low lt = absurd (omega arith)
+blank_at f (suc m) a none p low lt =
+    let two = and_parts (f a == 0) (blank (map f (range_with_len (a + 1) m))) none in
+    elim (cases_eq p a) [
+      | inl same ↦ ap f same ∙ eqb-true (f a) 0 two.0
+      | inr ne ↦ blank_at f m (a + 1) two.1 p (elim (cases_lt a p) [ inl past ↦ omega arith | inr le ↦ absurd (ne (omega arith)) ]) (omega arith)
+    ]
+
+pub zeros_are : (count i : ℕ) → slice_index (replicate {A = ℕ} count 0) i ≡ 0
+zeros_are zero i = refl
+zeros_are (suc count) zero = refl
+zeros_are (suc count) (suc i) = zeros_are count i
+
+second_false : (s t : Bool) → (s && t) ≡ false → s ≡ true → t ≡ false
+second_false true t none is = none
+second_false false t none is = absurd (cc is)
+
+not_false : (t : Bool) → not t ≡ false → t ≡ true
+not_false true e = refl
+not_false false e = absurd (cc e)
 
 not_true : (t : Bool) → not t ≡ true → t ≡ false
 not_true true e = absurd (cc e)
@@ -144,9 +168,9 @@ module _ (T : Types) (tree : Tree) (known : IsLayout) (n : ℕ) (number : n ≢ 
   abbrev Stay : StoreState → StoreState → Type 0
   Stay old new = Stays T tree known n number c size k no_directory old new
 
-  module _ (old new : StoreState) (at : At old) (first : ℕ) (bytes : List ℕ) (range : All (λ b. b < 256) bytes) (some : 0 < length bytes) (few : bucket_at first ≤ leaf_count)
+  module _ (old new : StoreState) (at : At old) (first : ℕ) (bytes : List ℕ) (range : All (λ b. b < 256) bytes) (some_bytes : 0 < length bytes) (few : bucket_at first ≤ leaf_count)
       (fits : length bytes ≤ part_left first) (there : bucket_block (readable old fs) (block_numbered (readable old fs) top n) (bucket_at first) ≢ 0) (past : size ≤ first)
-      (small : size ≤ greatest_size) (behind : Option ℕ)
+      (small : size ≤ greatest_size) (zeros : (i : ℕ) → slice_index bytes i ≡ 0) (behind : Option ℕ)
       (ran : Ran T fs (patch_act (bucket_block (readable old fs) (block_numbered (readable old fs) top n) (bucket_at first))
       (one_patch (bucket_start (bucket_at first) + place_in_bucket first) bytes) behind ∷ []) old new (Ok tt)) where
     abbrev content : ℕ → List ℕ
@@ -171,7 +195,7 @@ module _ (T : Types) (tree : Tree) (known : IsLayout) (n : ℕ) (number : n ≢ 
     beyond = subst (λ s. s ≤ first) (sym at.size_is) past
 
     abbrev next : ℕ → List ℕ
-    next = put node inode top (kinds old fs) content v known n number b_there k at.kind_is no_directory first bytes range some few fits there beyond fine behind
+    next = put node inode top (kinds old fs) content v known n number b_there k at.kind_is no_directory first bytes range some_bytes few fits there beyond fine behind
 
     keep : All KeepsBlocks (act ∷ [])
     keep = All-cons KeepsBlocks act [] refl (All-nil KeepsBlocks)
@@ -180,7 +204,22 @@ module _ (T : Types) (tree : Tree) (known : IsLayout) (n : ℕ) (number : n ≢ 
     read = acts_read T fs (act ∷ []) old new at.here.store keep ran
 
     fields : fields_of (next (block_numbered next top n)) ≡ fields_of (content in_block)
-    fields = put_fields node inode top (kinds old fs) content v known n number b_there k at.kind_is no_directory first bytes range some few fits there beyond fine behind
+    fields = put_fields node inode top (kinds old fs) content v known n number b_there k at.kind_is no_directory first bytes range some_bytes few fits there beyond fine behind
+
+    next_volume : IsVolume node inode (kinds old fs) next top
+    next_volume = put_volume node inode top (kinds old fs) content v known n number b_there k at.kind_is no_directory first bytes range some_bytes few fits there beyond fine behind
+
+    next_block : block_numbered next top n ≡ c
+    next_block = put_numbered node inode top (kinds old fs) content v known n number b_there k at.kind_is no_directory first bytes range some_bytes few fits there beyond fine behind ∙ at.block
+
+    faded : IsFaded content next c
+    faded = record {
+      leaves = λ i. subst (λ x. Fades (leaf_block content x i) (leaf_block next x i)) next_block
+          (leaf_fades node inode top (kinds old fs) content next next_volume n (λ z. at.there (sym next_block ∙ z))
+          (λ b o some has. inl ((put_in node inode top (kinds old fs) content v known n number b_there bytes range some_bytes first few fits there behind).keeps b o has)) i);
+      bytes = λ p low. subst (λ x. Fades (byte_of content x p) (byte_of next x p)) at.block
+          (byte_fades node inode top (kinds old fs) content v known n number b_there bytes range some_bytes first few fits there behind zeros p low);
+    }
 
     put_stays : Stay old new
     put_stays = (
@@ -188,21 +227,47 @@ module _ (T : Types) (tree : Tree) (known : IsLayout) (n : ℕ) (number : n ≢ 
         here = record {
           store = read.0;
           root = ran_root T fs (act ∷ []) old new at.here.store keep ran ∙ at.here.root;
-          volume = subst (λ t. IsVolume node inode t (readable new fs) top) (sym read.2) (subst (λ m. IsVolume node inode (kinds old fs) m top) (sym read.1)
-              (put_volume node inode top (kinds old fs) content v known n number b_there k at.kind_is no_directory first bytes range some few fits there beyond fine behind));
+          volume = subst (λ t. IsVolume node inode t (readable new fs) top) (sym read.2) (subst (λ m. IsVolume node inode (kinds old fs) m top) (sym read.1) next_volume);
         };
-        block = ap (λ m. block_numbered m top n) read.1
-            ∙ (put_numbered node inode top (kinds old fs) content v known n number b_there k at.kind_is no_directory first bytes range some few fits there beyond fine behind ∙ at.block);
+        block = ap (λ m. block_numbered m top n) read.1 ∙ next_block;
         there = at.there;
         size_is = ap (λ m. (fields_of (m (block_numbered m top n))).size) read.1 ∙ (ap (λ (f : Fields). f.size) fields ∙ at.size_is);
         kind_is = ap (λ m. kind_of (fields_of (m (block_numbered m top n))).mode) read.1 ∙ (ap (λ (f : Fields). kind_of f.mode) fields ∙ at.kind_is);
       },
       ap (λ m. files_of m top) read.1
-          ∙ put_files node inode top (kinds old fs) content v known n number b_there k at.kind_is no_directory first bytes range some few fits there beyond fine behind,
+          ∙ put_files node inode top (kinds old fs) content v known n number b_there k at.kind_is no_directory first bytes range some_bytes few fits there beyond fine behind,
+      subst (λ m. IsFaded content m c) (sym read.1) faded,
     )
+
+    put_clears : (p : ℕ) → p < greatest_size → first ≤ p → p < first + length bytes → byte_of (readable new fs) c p ≡ 0
+    put_clears p low from to = ap (λ m. byte_of m c p) read.1 ∙ subst (λ x. byte_of next x p ≡ 0) at.block
+        (byte_cleared node inode top (kinds old fs) content v known n number b_there bytes range some_bytes first few fits there behind zeros p low from to)
+
+  -- so many zeros
+  put_so : (old new : StoreState) (at : At old) (first count : ℕ) → 0 < count → bucket_at first ≤ leaf_count → count ≤ part_left first →
+      bucket_block (readable old fs) (block_numbered (readable old fs) top n) (bucket_at first) ≢ 0 → size ≤ first → size ≤ greatest_size → (behind : Option ℕ) →
+      Ran T fs (patch_act (bucket_block (readable old fs) (block_numbered (readable old fs) top n) (bucket_at first))
+      (one_patch (bucket_start (bucket_at first) + place_in_bucket first) (replicate count 0)) behind ∷ []) old new (Ok tt) →
+      Stay old new × ((p : ℕ) → p < greatest_size → first ≤ p → p < first + count → byte_of (readable new fs) c p ≡ 0)
+  put_so old new at first count some few fits there past small behind ran =
+      let long : length (replicate {A = ℕ} count 0) ≡ count = length-replicate count 0 in
+      let range = All-replicate (λ b. b < 256) count 0 (omega arith) in
+      let some_bytes : 0 < length (replicate {A = ℕ} count 0) = omega arith in
+      let fit : length (replicate {A = ℕ} count 0) ≤ part_left first = omega arith in (
+        put_stays old new at first (replicate count 0) range some_bytes few fit there past small (zeros_are count) behind ran,
+        λ p low from to. put_clears old new at first (replicate count 0) range some_bytes few fit there past small (zeros_are count) behind ran p low from (omega arith),
+      )
 
   abbrev end : ℕ
   end = file_end size
+
+  -- the bytes from the size on that stand together are 0
+  abbrev Cleared : StoreState → Type 0
+  Cleared s = (p : ℕ) → end ≤ p → p < end + part_left end → byte_of (readable s fs) c p ≡ 0
+
+  -- where they stand in the inode, or in a leaf that is kept
+  abbrev pub IsCleared : StoreState → Type 0
+  IsCleared s = (end < 384) ⊎ ((384 < end) × (end < greatest_size) × (end % 512 ≢ 0)) → Cleared s
 
   module _ (old new : StoreState) (at : At old) where
     abbrev m : ℕ → List ℕ
@@ -212,17 +277,16 @@ module _ (T : Types) (tree : Tree) (known : IsLayout) (n : ℕ) (number : n ≢ 
     place = block_numbered m top n
 
     -- in the inode
-    in_inode : end < 384 → Ran T fs (blank_act (record { block = c; offset = 128 + end; behind = None }) ∷ []) old new (Ok tt) → Stay old new
+    in_inode : end < 384 → Ran T fs (blank_act (record { block = c; offset = 128 + end; behind = None }) ∷ []) old new (Ok tt) → Stay old new × Cleared new
     in_inode low ran =
         let bucket : bucket_at end ≡ 0 = ap (λ t. if t then 0 else end / 512 + 1) (lt-ltb end 384 low) in
         let at_place : place_in_bucket end ≡ end = ap (λ t. if t then end else end % 512) (lt-ltb end 384 low) in
         let left : part_left end ≡ 384 - end = ap (λ t. if t then 384 - end else 512 - end % 512) (lt-ltb end 384 low) in
-        let long : length (replicate {A = ℕ} (512 - (128 + end)) 0) ≡ 512 - (128 + end) = length-replicate (512 - (128 + end)) 0 in
         let is_block : c ≡ bucket_block m place (bucket_at end) = sym at.block ∙ ap (bucket_block m place) (sym bucket) in
-        put_stays old new at end (replicate (512 - (128 + end)) 0) (All-replicate (λ b. b < 256) (512 - (128 + end)) 0 (omega arith)) (omega arith)
-        (omega arith) (omega arith) (λ z. at.there (is_block ∙ z)) (omega arith) (omega arith) None
+        let s = put_so old new at end (512 - (128 + end)) (omega arith) (omega arith) (omega arith) (λ z. at.there (is_block ∙ z)) (omega arith) (omega arith) None
         (subst (λ (a : Act). Ran T fs (a ∷ []) old new (Ok tt))
-        (λ j. patch_act (is_block j) (one_patch (bucket_start (sym bucket j) + sym at_place j) (replicate (512 - (128 + end)) 0)) None) ran)
+        (λ j. patch_act (is_block j) (one_patch (bucket_start (sym bucket j) + sym at_place j) (replicate (512 - (128 + end)) 0)) None) ran) in
+        (s.0, λ p from to. s.1 p (omega arith) from (omega arith))
 
     -- in a leaf
     leaf_there : 384 ≤ end → blank (bytes_past m c end) ≡ false → leaf_block m c (end / 512) ≢ 0
@@ -234,12 +298,11 @@ module _ (T : Types) (tree : Tree) (known : IsLayout) (n : ℕ) (number : n ≢ 
         ∙ (ap (λ i. leaf_byte m (leaf_block m c i) (p % 512)) same ∙ ap (λ x. leaf_byte m x (p % 512)) z))) ∙ some)
 
     in_leaf : 384 ≤ end → end < greatest_size → blank (bytes_past m c end) ≡ false →
-        Ran T fs (blank_act (record { block = leaf_block m c (end / 512); offset = end % 512; behind = Some c }) ∷ []) old new (Ok tt) → Stay old new
+        Ran T fs (blank_act (record { block = leaf_block m c (end / 512); offset = end % 512; behind = Some c }) ∷ []) old new (Ok tt) → Stay old new × Cleared new
     in_leaf high low some ran =
         let bucket : bucket_at end ≡ end / 512 + 1 = ap (λ t. if t then 0 else end / 512 + 1) (le-ltb end 384 high) in
         let at_place : place_in_bucket end ≡ end % 512 = ap (λ t. if t then end else end % 512) (le-ltb end 384 high) in
         let left : part_left end ≡ 512 - end % 512 = ap (λ t. if t then 384 - end else 512 - end % 512) (le-ltb end 384 high) in
-        let long : length (replicate {A = ℕ} (512 - end % 512) 0) ≡ 512 - end % 512 = length-replicate (512 - end % 512) 0 in
         let bucket_some : bucket_at end ≢ 0 = λ z. absurd (omega (arith, z, bucket)) in
         let one_less : bucket_at end - 1 ≡ end / 512 = omega arith in
         let is_block : leaf_block m c (end / 512) ≡ bucket_block m place (bucket_at end) =
@@ -247,41 +310,66 @@ module _ (T : Types) (tree : Tree) (known : IsLayout) (n : ℕ) (number : n ≢ 
         ∙ sym (ap (λ t. if t then place else leaf_block m place (bucket_at end - 1)) (ne_eqb (bucket_at end) 0 bucket_some)) in
         let start : 0 ≡ bucket_start (bucket_at end) = sym (ap (λ t. if t then 128 else 0) (ne_eqb (bucket_at end) 0 bucket_some)) in
         let at_offset : end % 512 ≡ bucket_start (bucket_at end) + place_in_bucket end = omega arith in
-        put_stays old new at end (replicate (512 - end % 512) 0) (All-replicate (λ b. b < 256) (512 - end % 512) 0 (omega arith)) (omega arith)
-        (omega arith) (omega arith) (λ z. leaf_there high some (is_block ∙ z)) (omega arith) (omega arith) (Some c)
-        (subst (λ (a : Act). Ran T fs (a ∷ []) old new (Ok tt)) (λ j. patch_act (is_block j) (one_patch (at_offset j) (replicate (512 - end % 512) 0)) (Some c)) ran)
+        let s = put_so old new at end (512 - end % 512) (omega arith) (omega arith) (omega arith) (λ z. leaf_there high some (is_block ∙ z)) (omega arith) (omega arith) (Some c)
+        (subst (λ (a : Act). Ran T fs (a ∷ []) old new (Ok tt)) (λ j. patch_act (is_block j) (one_patch (at_offset j) (replicate (512 - end % 512) 0)) (Some c)) ran) in
+        (s.0, λ p from to. s.1 p (omega arith) from (omega arith))
+
+    -- nothing is to be put
+    module _ (is_low : has_bytes_behind m c end ≡ false) (is_high : has_tail m c end ≡ false) where
+      blank_there : (end < 384) ⊎ ((384 < end) × (end < greatest_size) × (end % 512 ≢ 0)) → blank (bytes_past m c end) ≡ true
+      blank_there (inl low) = not_false (blank (bytes_past m c end)) (second_false (nat_lt end 384) (not (blank (bytes_past m c end))) is_low (lt-ltb end 384 low))
+      blank_there (inr (high, few, rest)) =
+          let one = second_false (nat_lt 384 end) (nat_lt end greatest_size && (not (end % 512 == 0) && not (blank (bytes_past m c end)))) is_high (lt-ltb 384 end high) in
+          let two = second_false (nat_lt end greatest_size) (not (end % 512 == 0) && not (blank (bytes_past m c end))) one (lt-ltb end greatest_size few) in
+          not_false (blank (bytes_past m c end)) (second_false (not (end % 512 == 0)) (not (blank (bytes_past m c end))) two (ap not (ne_eqb (end % 512) 0 rest)))
+
+      was_cleared : IsCleared old
+      was_cleared place p from to = blank_at (byte_of m c) (part_left end) end (blank_there place) p from to
+
+  -- it stays, and where it was done bytes are 0
+  abbrev Blanked : StoreState → StoreState → Result (Unit {0}) Fault → Type 0
+  Blanked old new result = Stay old new × (result ≡ Ok tt → IsCleared new)
 
   one_blank : (old new : StoreState) (result : Result (Unit {0}) Fault) → At old → (plan : BlankPlan) →
-      (Ran T fs (blank_act plan ∷ []) old new (Ok tt) → Stay old new) → DoesIfAny T fs (plan_of_blank (Ok (Some plan))) old new result → Stay old new
-  one_blank old new (Ok tt) at plan stay does = stay (ran_acts T fs (blank_act plan ∷ []) old new does)
-  one_blank old new (Err fault) at plan stay does = stays_same T tree known n number c size k no_directory old new at (refused_whole T fs (blank_act plan) old new fault does)
+      (Ran T fs (blank_act plan ∷ []) old new (Ok tt) → Stay old new × Cleared new) → DoesIfAny T fs (plan_of_blank (Ok (Some plan))) old new result → Blanked old new result
+  one_blank old new (Ok tt) at plan stay does = let s = stay (ran_acts T fs (blank_act plan ∷ []) old new does) in (s.0, λ done place. s.1)
+  one_blank old new (Err fault) at plan stay does =
+      (stays_same T tree known n number c size k no_directory old new at (refused_whole T fs (blank_act plan) old new fault does), λ done. absurd (cc done))
 
   abbrev leaf_plan : StoreState → BlankPlan
   leaf_plan old = record { block = leaf_block (readable old fs) c (end / 512); offset = end % 512; behind = Some c }
 
-  pub blanks_stay : (memory : Memory) (old new : StoreState) (result : Result (Unit {0}) Fault) → At old → Blanks T fs memory (kept_up_to c size) old new result → Stay old new
-  blanks_stay memory old new result at does = by (has_bytes_behind (readable old fs) c end) refl does
+  blanked : (memory : Memory) (old new : StoreState) (result : Result (Unit {0}) Fault) → At old → Blanks T fs memory (kept_up_to c size) old new result → Blanked old new result
+  blanked memory old new result at does = by (has_bytes_behind (readable old fs) c end) refl does
     where
-      in_room : (t : Bool) → has_tail (readable old fs) c end ≡ true → DoesIfAny T fs (plan_of_blank (if t then Ok (Some (leaf_plan old)) else Err Full)) old new result → Stay old new
+      in_room : (t : Bool) → has_tail (readable old fs) c end ≡ true → DoesIfAny T fs (plan_of_blank (if t then Ok (Some (leaf_plan old)) else Err Full)) old new result →
+          Blanked old new result
       in_room true is does =
           let one = and_parts (nat_lt 384 end) (nat_lt end greatest_size && (not (end % 512 == 0) && not (blank (bytes_past (readable old fs) c end)))) is in
           let two = and_parts (nat_lt end greatest_size) (not (end % 512 == 0) && not (blank (bytes_past (readable old fs) c end))) one.1 in
           let three = and_parts (not (end % 512 == 0)) (not (blank (bytes_past (readable old fs) c end))) two.1 in
           let high : 384 < end = ltb-true 384 end one.0 in
           one_blank old new result at (leaf_plan old) (in_leaf old new at (omega arith) (ltb-true end greatest_size two.0) (not_true (blank (bytes_past (readable old fs) c end)) three.1)) does
-      in_room false is does = stays_same T tree known n number c size k no_directory old new at does.1
+      in_room false is does = (stays_same T tree known n number c size k no_directory old new at does.1, λ done. absurd (cc (sym done ∙ does.0)))
 
-      tail : (t : Bool) → has_tail (readable old fs) c end ≡ t →
+      tail : has_bytes_behind (readable old fs) c end ≡ false → (t : Bool) → has_tail (readable old fs) c end ≡ t →
           DoesIfAny T fs (plan_of_blank (if t then (if has_room old fs (length memory.touched) 10 (((leaf_plan old).block, 1) ∷ []) then Ok (Some (leaf_plan old)) else Err Full) else Ok None)) old new result →
-          Stay old new
-      tail true is does = in_room (has_room old fs (length memory.touched) 10 (((leaf_plan old).block, 1) ∷ [])) is does
-      tail false is does = stays_same T tree known n number c size k no_directory old new at does.1
+          Blanked old new result
+      tail none true is does = in_room (has_room old fs (length memory.touched) 10 (((leaf_plan old).block, 1) ∷ [])) is does
+      tail none false is does =
+          (stays_same T tree known n number c size k no_directory old new at does.1, λ done. subst IsCleared (sym does.1) (was_cleared old new at none is))
 
       by : (t : Bool) → has_bytes_behind (readable old fs) c end ≡ t →
           DoesIfAny T fs (plan_of_blank (if t then Ok (Some (record { block = c; offset = 128 + end; behind = None })) else
           if has_tail (readable old fs) c end then (if has_room old fs (length memory.touched) 10 (((leaf_plan old).block, 1) ∷ []) then Ok (Some (leaf_plan old)) else Err Full) else Ok None)) old new result →
-          Stay old new
+          Blanked old new result
       by true is does =
           let low = ltb-true end 384 (and_parts (nat_lt end 384) (not (blank (bytes_past (readable old fs) c end))) is).0 in
           one_blank old new result at (record { block = c; offset = 128 + end; behind = None }) (in_inode old new at low) does
-      by false is does = tail (has_tail (readable old fs) c end) refl does
+      by false is does = tail is (has_tail (readable old fs) c end) refl does
+
+  pub blanks_stay : (memory : Memory) (old new : StoreState) (result : Result (Unit {0}) Fault) → At old → Blanks T fs memory (kept_up_to c size) old new result → Stay old new
+  blanks_stay memory old new result at does = (blanked memory old new result at does).0
+
+  pub blanks_clear : (memory : Memory) (old new : StoreState) → At old → Blanks T fs memory (kept_up_to c size) old new (Ok tt) → IsCleared new
+  blanks_clear memory old new at does = (blanked memory old new (Ok tt) at does).1 refl

@@ -24,6 +24,7 @@ use Rattle.treefs_values.specs.KnownLayout.{IsLayout}
 use Rattle.treefs_values.specs.Volumes.{IsVolume}
 use Rattle.treefs_values.specs.Ways.{block_numbered}
 use Rattle.treefs_values.proofs.ForCallers.{edit_is}
+use Rattle.treefs_laws.proofs.Fading.{faded_same}
 use Rattle.treefs_laws.proofs.Planned.{same_done, waits_write}
 use Rattle.treefs_laws.proofs.TrimParts.{IsFileAt, Stays, stays_same, stays_then}
 
@@ -71,6 +72,7 @@ module _ (T : Types) (tree : Tree) (known : IsLayout) (n : ℕ) (number : n ≢ 
             kind_is = ap (λ m. kind_of (fields_of (m (block_numbered m top n))).mode) reads ∙ at.kind_is;
           },
           ap (λ m. files_of m top) reads,
+          faded_same (readable old fs) (readable new fs) c reads,
         ),
         reads,
       )

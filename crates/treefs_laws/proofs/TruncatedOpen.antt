@@ -1,4 +1,4 @@
--- What truncate does to a file whose size does not rise.
+-- What truncate does to a file.
 use mathlib.Core.Path.{fun_ext}
 use Rattle.std.proofs.Common.{◌≡◌, ◌≢◌, ◌⊎◌, ℕ, ℤ, ◌+◌, ◌-◌, ◌<◌, ◌≤◌, ◌%◌, ◌/◌, ◌^◌, Bool, true, false, ◌&&◌, not, List, [], ◌∷◌, length, replicate, Option, None, Some, Result, Ok, Err, refl, sym, ◌∙◌, ap, inl, inr, subst, arith, if◌then◌else◌}
 use Rattle.std.specs.Prelude.{All, FitsSigned, MatchResult, nat_lt, ◌==◌}
@@ -7,7 +7,6 @@ use Rattle.std.specs.Option.{ok_or}
 use Rattle.std.proofs.lemmas.Bool.{and_parts, le-ltb, lt-ltb, ltb-false, ltb-true}
 use Rattle.std.proofs.lemmas.List.{length-replicate}
 use Rattle.std.proofs.lemmas.List.Elements.{All-cons, All-nil, All-replicate, All-weaker}
-use Rattle.std.proofs.lemmas.List.FromFn.{length-map-range_with_len}
 use Rattle.std.proofs.lemmas.Option.{same_Some}
 use Rattle.xn_model.specs.Types.{Types}
 use Rattle.xn_model.specs.Calls.{Patch, patched, root_of}
@@ -23,8 +22,8 @@ use Rattle.treefs_format.specs.declared.kind.Kind.{Kind}
 use Rattle.treefs_format.specs.declared.kind.Kind.TheVariants as kind
 use Rattle.treefs_model.specs.Acts.{Act, Ran, one_patch, patch_act}
 use Rattle.treefs_model.specs.Changes.{resized, rewritten, truncated}
-use Rattle.treefs_model.specs.Files.{Files, Inode, and_then, bytes_in, changed_at, file_at, found}
-use Rattle.treefs_model.specs.Reading.{byte_of, bytes_of, content_at, files_of, key_in}
+use Rattle.treefs_model.specs.Files.{Files, Inode, and_then, bytes_in, changed_at, found}
+use Rattle.treefs_model.specs.Reading.{byte_of, content_at, files_of, key_in}
 use Rattle.treefs_model.specs.declared.fault.Fault.{Fault}
 use Rattle.treefs_model.specs.declared.fault.Fault.TheVariants.{Full, NoEntry, TooLarge}
 use Rattle.treefs_lookup.specs.Buckets.{bucket_block, bucket_start}
@@ -49,10 +48,10 @@ use Rattle.treefs.specs.declared.volume.Volume.{Volume}
 use Rattle.treefs_values.specs.Bytes.{bucket_at, place_in_bucket}
 use Rattle.treefs_values.specs.Kinds.{kinds}
 use Rattle.treefs_values.specs.KnownLayout.{IsLayout}
-use Rattle.treefs_values.specs.Values.{KeepsBlocks, found_value}
+use Rattle.treefs_values.specs.Values.{KeepsBlocks}
 use Rattle.treefs_values.specs.Volumes.{IsVolume}
 use Rattle.treefs_values.specs.Ways.{block_numbered}
-use Rattle.treefs_values.proofs.ForCallers.{IsFound, acts_read, inodes_found}
+use Rattle.treefs_values.proofs.ForCallers.{IsFound, acts_read}
 use Rattle.treefs_laws.specs.Kept.{files_in}
 use Rattle.treefs_laws.specs.Open.{IsOpen}
 use Rattle.treefs_laws.specs.Seen.{AreTimes, seen_files, seen_inode}
@@ -66,6 +65,7 @@ use Rattle.treefs_laws.proofs.TrimBlanks.{put_fields, put_files, put_numbered, p
 use Rattle.treefs_laws.proofs.TrimOpen.{IsFileFound, found_file, trim_said, trim_stays}
 use Rattle.treefs_laws.proofs.TrimParts.{IsFileAt}
 use Rattle.treefs_laws.proofs.TrimSought.{truncate_sought}
+use Rattle.treefs_laws.proofs.TrimmedFirst.{AreZeros, sought_zeros}
 use Rattle.treefs_laws.proofs.Truncated.{bytes_then, sized, sized_files, sized_kind, sized_numbered, sized_size, sized_volume, to_size, value, value_is, written_twice}
 
 -- The size is set, with zeros behind it
@@ -146,7 +146,8 @@ module _ (node inode top : ℕ) (type : ℕ → ℕ) (content : ℕ → List ℕ
 -- In a state of the store
 
 module _ (T : Types) (known : IsLayout) (state : StoreState) (volume : Volume) (is_open : IsOpen T state volume) (n : ℕ) (x : Found)
-    (x_is : file_found (readable state volume.tree.fs.number) volume.tree.top n ≡ Ok x) (size : ℕ) (small : size ≤ greatest_size) (short : size ≤ x.fields.size) where
+    (x_is : file_found (readable state volume.tree.fs.number) volume.tree.top n ≡ Ok x) (size : ℕ) (small : size ≤ greatest_size)
+    (zeros : (p : ℕ) → x.fields.size ≤ p → p < size → byte_of (readable state volume.tree.fs.number) x.block p ≡ 0) where
   abbrev fs : ℕ
   fs = volume.tree.fs.number
 
@@ -252,7 +253,7 @@ module _ (T : Types) (known : IsLayout) (state : StoreState) (volume : Volume) (
         ∙ ap (λ y. record was_value { mtime = clock; ctime = clock; content = y })
         (bytes_then volume.tree.node_type volume.tree.inode_type top type content is_open.kept.bytes known n found_there.number
         found_there.there size clock is_open.kept.session.clock few x.kind found_there.kind file_there.no_directory
-        (λ p low high. let was : x.fields.size ≡ (fields_of (content (block_numbered content top n))).size = ap (λ (g : Fields). g.size) found_there.fields in absurd (omega arith))))
+        (λ p low high. subst (λ b. byte_of content b p ≡ 0) found_there.block (zeros p (subst (λ s. s ≤ p) (sym (ap (λ (g : Fields). g.size) found_there.fields)) low) high))))
 
     pub set_files : files_in set later ≡ changed_at seen n (rewritten clock (resized size))
     set_files = ap (seen_files left) is_set.files
@@ -323,31 +324,7 @@ module _ (T : Types) (known : IsLayout) (state : StoreState) (volume : Volume) (
 
 -- The call
 
-module _ (T : Types) (known : IsLayout) (state : StoreState) (volume : Volume) (is_open : IsOpen T state volume) (n : ℕ) (x : Found)
-    (x_is : file_found (readable state volume.tree.fs.number) volume.tree.top n ≡ Ok x) where
-  abbrev m : ℕ → List ℕ
-  m = readable state volume.tree.fs.number
-
-  x_found : IsFileFound T known state volume is_open n x
-  x_found = found_file T known state volume is_open n x x_is
-
-  bytes_known : (k : Kind) → k ≢ kind.Directory → bytes_in (content_at m (key_in m volume.tree.top) x.block x.fields.parent k) ≡ Ok (bytes_of m x.block)
-  bytes_known kind.Directory other = absurd (other refl)
-  bytes_known kind.File other = refl
-  bytes_known kind.SymbolicLink other = refl
-
-  pub file_bytes : file_at (files_in state volume) n ≡ Ok (bytes_of m x.block)
-  file_bytes = ap (λ r. and_then r (λ (inode : Inode). bytes_in inode.content))
-      (found_seen volume.memory.touched (files_of m volume.tree.top) n (found_value m volume.tree.top x)
-      (sym (inodes_found m volume.tree.top n) ∙ ap (λ r. and_then r (λ x. Ok (found_value m volume.tree.top x))) x_found.here))
-      ∙ bytes_known x.kind x_found.no_directory
-
-  pub bytes_long : length (bytes_of m x.block) ≡ x.fields.size
-  bytes_long = length-map-range_with_len (byte_of m x.block) 0 (fields_of (m x.block)).size
-      ∙ (ap (λ c. (fields_of (m c)).size) x_found.is.block ∙ ap (λ (g : Fields). g.size) (sym x_found.is.fields))
-
-module _ (T : Types) (known : IsLayout) (old : StoreState) (volume : Volume) (is_open : IsOpen T old volume) (number size : ℕ)
-    (shortens : (bytes : List ℕ) → file_at (files_in old volume) number ≡ Ok bytes → size ≤ length bytes) where
+module _ (T : Types) (known : IsLayout) (old : StoreState) (volume : Volume) (is_open : IsOpen T old volume) (number size : ℕ) where
   abbrev own : ℕ
   own = volume.tree.fs.number
 
@@ -365,20 +342,15 @@ module _ (T : Types) (known : IsLayout) (old : StoreState) (volume : Volume) (is
       ((fault : Fault) × (result ≡ Err fault) × (volume' ≡ volume) × IsOpen T new volume × (files_in new volume ≡ files_in old volume))
       ⊎ (IsOpen T new volume' × (truncated (files_in old volume) volume.memory.clock number size ≡ Ok (files_in new volume')))
 
-  module _ (middle new : StoreState) (volume' : Volume) (result : Result (Unit {0}) Fault) (open_there : IsOpen T middle volume) (same : files_in middle volume ≡ files_in old volume) where
+  module _ (middle new : StoreState) (volume' : Volume) (result : Result (Unit {0}) Fault) (open_there : IsOpen T middle volume) (same : files_in middle volume ≡ files_in old volume)
+      (zeros : (x : Found) → truncated_file (readable middle own) volume.tree.top number size ≡ Ok x → AreZeros volume middle x) where
     failed : (fault : Fault) → result ≡ Err fault → volume' ≡ volume → new ≡ middle → Ends new volume' result
     failed fault err v s =
         let stays = subst (λ t. IsOpen T t volume × (files_in t volume ≡ files_in old volume)) (sym s) (open_there, same) in
         inl (fault, err, v, stays.0, stays.1)
 
     module _ (plan : SizePlan) (x : Found) (x_is : file_found (readable middle own) volume.tree.top number ≡ Ok x) (small : size ≤ greatest_size)
-        (plan_is : planned_size (readable middle own) volume.memory x size ≡ plan) where
-      short : size ≤ x.fields.size
-      short =
-          let le = shortens (bytes_of (readable middle own) x.block) (sym (ap (λ g. file_at g number) same) ∙ file_bytes T known middle volume open_there number x x_is) in
-          let long = bytes_long T known middle volume open_there number x x_is in
-          omega arith
-
+        (past : AreZeros volume middle x) (plan_is : planned_size (readable middle own) volume.memory x size ≡ plan) where
       size_done : SizeDoes T middle new volume volume' number (Ok plan) result → Ends new volume' result
       size_done (inl (fails, v)) = by result refl fails
         where
@@ -387,7 +359,7 @@ module _ (T : Types) (known : IsLayout) (old : StoreState) (volume : Volume) (is
           by (Err fault) err does = failed fault err v (refused_whole T own (size_act plan) middle new fault does)
       size_done (inr (set, does, v, trims)) =
           let ran = ran_acts T own (size_act plan ∷ []) middle set does in
-          let said = sized_said T known middle volume open_there number x x_is size small short set
+          let said = sized_said T known middle volume open_there number x x_is size small (λ p low high. past p low (omega arith)) set
           (subst (λ p. Ran T own (size_act p ∷ []) middle set (Ok tt)) (sym plan_is) ran) new result
           (subst (λ p. TrimsFirst T own (changed_volume volume number true).memory p.trimmed_then set new result) (sym plan_is)
           (subst (λ w. TrimsFirst T own w.memory plan.trimmed_then set new result) v trims)) in
@@ -403,7 +375,7 @@ module _ (T : Types) (known : IsLayout) (old : StoreState) (volume : Volume) (is
             let a = then_ok (truncated_file (readable middle own) volume.tree.top number size) (size_in_room middle own volume.memory size) plan e in
             let b = then_ok (file_found (readable middle own) volume.tree.top number) (λ (file : Found). if nat_lt greatest_size size then Err TooLarge else Ok file) a.0 a.1 in
             let c = chosen_size (nat_lt greatest_size size) b.0 a.0 b.2 in
-            size_done plan a.0 (b.1 ∙ ap Ok c.1) (ltb-false greatest_size size c.0)
+            size_done plan a.0 (b.1 ∙ ap Ok c.1) (ltb-false greatest_size size c.0) (zeros a.0 a.1)
             (chosen_plan (has_room middle own (length volume.memory.touched) (most_edits a.0 size) ((a.0.block, most_edits a.0 size) ∷ []))
             (planned_size (readable middle own) volume.memory a.0 size) plan a.2) does
 
@@ -416,7 +388,8 @@ module _ (T : Types) (known : IsLayout) (old : StoreState) (volume : Volume) (is
           let s = trim_said T known old volume is_open kept (truncate_sought old volume number size kept sought) new (Err fault) trims in inl (fault, refl, v, s.0, s.1)
   truncate_ends new volume' result (kept, sought, inr (middle, trims, does)) =
       let s = trim_said T known old volume is_open kept (truncate_sought old volume number size kept sought) middle (Ok tt) trims in
-      size_ends middle new volume' result s.0 s.1 does
+      size_ends middle new volume' result s.0 s.1
+      (λ x x_is. sought_zeros T known old middle volume is_open s.0 number (nat_lt greatest_size size) x x_is (λ file. true) kept trims refl sought) does
 
   pub truncate_done : (new : StoreState) (volume' : Volume) → TruncateDoes T old new volume volume' number size (Ok tt) →
       IsOpen T new volume' × (truncated (files_in old volume) volume.memory.clock number size ≡ Ok (files_in new volume'))

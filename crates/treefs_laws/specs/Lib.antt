@@ -8,3 +8,7 @@ pub mod Setting
 pub mod Refusals
 pub mod Moved
 pub mod Trimmed
+pub mod Orphans
+pub mod Unnamed
+pub mod Space
+pub mod Overwriting

@@ -7,7 +7,7 @@ ghost use Rattle.xn_model.specs.Lives.{StoreState};
 ghost use Rattle.store_types.specs.declared.refusal.Refusal.{Refusal};
 ghost use Rattle.treefs_format.specs.declared.kind.Kind.{Kind};
 ghost use Rattle.treefs_format.specs.declared.kind.Kind.TheVariants as kinds;
-ghost use Rattle.treefs_model.specs.Changes.{IsListing, linked, new_name, read, removed, replaced, target, truncated, unlinked, with_mtime};
+ghost use Rattle.treefs_model.specs.Changes.{IsListing, linked, new_name, read, removed, replaced, target, truncated, unlinked, with_mtime, written};
 ghost use Rattle.treefs_model.specs.Files.{Directory, File, Inode, Names, SymbolicLink, and_then, changed_at, file_at, found, number_in};
 ghost use Rattle.treefs_model.specs.declared.fault.Fault.{Fault};
 ghost use Rattle.treefs_model.specs.declared.fault.Fault.TheVariants.{Full, Kernel};
@@ -25,6 +25,7 @@ ghost use Rattle.treefs.specs.Setting.{AttributesDoes, MtimeDoes};
 ghost use Rattle.treefs.specs.Sizing.{TruncateDoes};
 ghost use Rattle.treefs.specs.Trimming.{Blanks, Drops, Roots, TrimCallDoes, TrimsFirst, Waits};
 ghost use Rattle.treefs.specs.Unlinking.{RmdirDoes, UnlinkDoes};
+ghost use Rattle.treefs.specs.Writing.{WriteDoes};
 ghost use Rattle.treefs.specs.WritingTimes.{WriteTimesDoes};
 ghost use Rattle.treefs.specs.declared.attributes.Attributes.{Attributes as NewAttributes};
 ghost use Rattle.treefs.specs.declared.volume.Volume.{Volume};
@@ -40,12 +41,15 @@ ghost use Rattle.treefs_laws.specs.Making.{FitsAttributes, MakesInode, new_inode
 ghost use Rattle.treefs_laws.specs.Moved.{IsOfDirectory, IsRenamed};
 ghost use Rattle.treefs_laws.specs.Open.{IsOpen};
 ghost use Rattle.treefs_laws.specs.Reading.{AreAnswered, HasFewBytes, listed_by, read_bytes};
-ghost use Rattle.treefs_laws.specs.Refusals.{IsNoNumber, IsNoPlace, IsNotMoved, IsNotRemoved, IsRefused, IsWant};
+ghost use Rattle.treefs_laws.specs.Overwriting.{IsPartlyPut};
+ghost use Rattle.treefs_laws.specs.Refusals.{IsNoNumber, IsNoPlace, IsNotMoved, IsNotRemoved, IsOfStore, IsRefused, IsWant};
 ghost use Rattle.treefs_laws.specs.Setting.{AreInWidth, with_attributes};
 ghost use Rattle.treefs_laws.specs.Trimmed.{AreKeptOf, IsKeptOf};
 
 use treefs_format::law::modes_are_read_back;
-use treefs_values::law::layout_is_known;
+use treefs_values::law::{
+    attached_blocks_are_pointed_to, empty_blocks_change_no_file, layout_is_known,
+};
 
 /// Look-ups of names answer what the files say, each fault in its order, and so does `stat`.
 pub fn look_ups_answer_the_files()
@@ -333,18 +337,42 @@ pub fn what_is_trimmed_first_is_of_a_file()
         IsTrimToWrite (readable state volume.tree.fs.number) volume.tree.top number at count kept → AreKeptOf state volume kept }
 {}
 
-/// `truncate` to a size that a file or a symbolic link has at least leaves so many of its bytes, and does nothing else. Where it is refused the files and the
-/// session are as they were, or, where the size was set and what stands past it could not be trimmed, the files are as truncated.
-pub fn truncate_shortens_a_file()
+/// `truncate` sets the size of a file or a symbolic link, with zeros behind its bytes where it had fewer, and does nothing else. Where it is refused the files and
+/// the session are as they were, or, where the size was set and what stands past it could not be trimmed, the files are as truncated.
+pub fn truncate_sets_a_size()
     ensures done { (T : Types) (old new : StoreState) (volume volume' : Volume) (number size : ℕ) → IsOpen T old volume →
-        ((bytes : List ℕ) → file_at (files_in old volume) number ≡ Ok bytes → size ≤ length bytes) →
         TruncateDoes T old new volume volume' number size (Ok tt) →
         IsOpen T new volume' × (truncated (files_in old volume) volume.memory.clock number size ≡ Ok (files_in new volume')) }
     ensures refused { (T : Types) (old new : StoreState) (volume volume' : Volume) (number size : ℕ) (fault : Fault) → IsOpen T old volume →
-        ((bytes : List ℕ) → file_at (files_in old volume) number ≡ Ok bytes → size ≤ length bytes) →
         TruncateDoes T old new volume volume' number size (Err fault) →
         ((volume' ≡ volume) × IsOpen T new volume × (files_in new volume ≡ files_in old volume))
         ⊎ (IsOpen T new volume' × (truncated (files_in old volume) volume.memory.clock number size ≡ Ok (files_in new volume'))) }
 {
     layout_is_known();
+}
+
+/// `write_some` writes the first of the bytes, as many as it answers, over those of a file or a symbolic link from a byte on, with zeros before them where the file
+/// ends before, sets its times to the caller's, and does nothing else. Told is that the file has no more bytes than one may have.
+pub fn write_changes_bytes()
+    ensures { (T : Types) (old new : StoreState) (volume volume' : Volume) (number at : ℕ) (bytes : List ℕ) (taken : ℕ) → IsOpen T old volume →
+        HasFewBytes (files_in old volume) number → All (λ b. b < 256) bytes → WriteDoes T old new volume volume' number at bytes (Ok taken) →
+        IsOpen T new volume' × (written (files_in old volume) volume.memory.clock number at bytes taken ≡ Ok (files_in new volume'))
+        × (taken ≤ length bytes) × (0 < length bytes → 0 < taken) }
+{
+    layout_is_known();
+    attached_blocks_are_pointed_to();
+    empty_blocks_change_no_file();
+}
+
+/// `write_some` that is refused leaves the session and the files as they were; but where the store refuses, some of the first of the bytes may stand over those
+/// that the file had, with its size and its times as they were.
+pub fn refused_write_keeps_the_session()
+    ensures { (T : Types) (old new : StoreState) (volume volume' : Volume) (number at : ℕ) (bytes : List ℕ) (fault : Fault) → IsOpen T old volume →
+        HasFewBytes (files_in old volume) number → All (λ b. b < 256) bytes → WriteDoes T old new volume volume' number at bytes (Err fault) →
+        (volume' ≡ volume) × IsOpen T new volume × ((files_in new volume ≡ files_in old volume)
+        ⊎ (IsOfStore fault × IsPartlyPut (files_in old volume) number at bytes (files_in new volume))) }
+{
+    layout_is_known();
+    attached_blocks_are_pointed_to();
+    empty_blocks_change_no_file();
 }

@@ -3,3 +3,6 @@
 #![tactic(auto)]
 
 pub mod law;
+pub mod marks;
+pub mod orphans;
+pub mod space;

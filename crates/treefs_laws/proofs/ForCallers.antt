@@ -1,0 +1,4 @@
+-- What crates above cite in their proofs. They import no other module of these proofs.
+
+-- files without some orphans
+pub use Rattle.treefs_laws.proofs.ReapedFiles.{among_or_not, is_orphan_or_not, orphan_then, reaped_same, reaped_then, reaped_weaker, reaped_without, without_gone}

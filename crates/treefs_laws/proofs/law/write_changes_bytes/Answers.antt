@@ -1,0 +1,7 @@
+use Rattle.treefs_laws.proofs.WriteDone.{write_done}
+use Rattle.treefs_laws.proofs.law.write_changes_bytes.Goals as goal
+
+pub returns : goal.returns
+returns c = λ T old new volume volume' number at bytes taken is_open few wide does.
+    write_done (record { set = c.attached_blocks_are_pointed_to.ensures; empty = c.empty_blocks_change_no_file.ensures }) T c.layout_is_known.ensures old volume is_open number at bytes few wide
+    new volume' taken does

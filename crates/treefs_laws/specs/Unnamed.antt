@@ -1,0 +1,19 @@
+-- An inode that has no number.
+--     IsUnnamed     nothing points to its block; those on the ways from it that are nodes have their type
+use Rattle.std.specs.Prelude.{◌≡◌, ◌≢◌, ℕ, suc, List, IsTrue}
+use Rattle.xn_model.specs.Lives.{StoreState}
+use Rattle.treefs_model.specs.Reading.{block_at, pointed}
+use Rattle.treefs_model.specs.Trees.{has_pointer}
+use Rattle.treefs_lookup.specs.Readable.{readable}
+use Rattle.treefs.specs.declared.volume.Volume.{Volume}
+use Rattle.treefs_values.specs.Kinds.{kinds}
+use Rattle.treefs_values.specs.Ways.{IsWay}
+
+pub record IsUnnamed (state : StoreState) (volume : Volume) (block : ℕ) : Type 0 where
+  pub there : block ≢ 0
+  pub typed : kinds state volume.tree.fs.number block ≡ volume.tree.inode_type
+  pub nodes : (l : ℕ) (offsets : List ℕ) → IsWay offsets (suc l) → block_at (readable state volume.tree.fs.number) block offsets ≢ 0 →
+      kinds state volume.tree.fs.number (block_at (readable state volume.tree.fs.number) block offsets) ≡ volume.tree.node_type
+  pub no_root : volume.tree.top ≢ block
+  pub unled : (p o : ℕ) → IsTrue (has_pointer volume.tree.node_type volume.tree.inode_type (kinds state volume.tree.fs.number p) o) →
+      pointed (readable state volume.tree.fs.number) p o ≢ block

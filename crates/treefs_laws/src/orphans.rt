@@ -1,0 +1,46 @@
+// Laws of inodes without links, and of blocks that nothing points to.
+
+ghost use Rattle.std.specs.Prelude.{◌≡◌, ℕ, Bool, Contains, List, Ok, Result};
+ghost use Rattle.xn_model.specs.Types.{Types};
+ghost use Rattle.xn_model.specs.Lives.{StoreState};
+ghost use Rattle.treefs_model.specs.declared.fault.Fault.{Fault};
+ghost use Rattle.treefs.specs.Reaping.{ReapDoes};
+ghost use Rattle.treefs.specs.Trimming.{GiveUpDoes};
+ghost use Rattle.treefs.specs.declared.volume.Volume.{Volume};
+ghost use Rattle.treefs_model.specs.Files.{Inode};
+ghost use Rattle.treefs_laws.specs.Begun.{IsBegun};
+ghost use Rattle.treefs_laws.specs.Kept.{files_in};
+ghost use Rattle.treefs_laws.specs.Open.{IsOpen};
+ghost use Rattle.treefs_laws.specs.Orphans.{IsReaped, WaitLess, without_orphans};
+ghost use Rattle.treefs_laws.specs.Unnamed.{IsUnnamed};
+
+use treefs_format::law::leaves_are_side_by_side;
+use treefs_values::law::{layout_is_known, new_inodes_are_free};
+
+/// `reap` frees inodes without links, of the numbers that it is told, and does nothing else. Whatever it answers, all other inodes are as before, and an inode
+/// that it leaves has no links still, and says what it said, but for bytes that are 0 and names that are gone. Once it is done none of them is left. A
+/// number that waits to be freed no more leads to no inode.
+pub fn reap_frees_orphans()
+    ensures ever { (T : Types) (old new : StoreState) (volume volume' : Volume) (numbers : List ℕ) (result : Result (Unit {0}) Fault) → IsOpen T old volume →
+        ReapDoes T old new volume volume' numbers result →
+        IsOpen T new volume' × IsReaped (Contains numbers) (files_in old volume) (files_in new volume')
+        × (volume'.tree ≡ volume.tree) × (volume'.memory.clock ≡ volume.memory.clock) }
+    ensures done { (T : Types) (old new : StoreState) (volume volume' : Volume) (numbers : List ℕ) → IsOpen T old volume →
+        ReapDoes T old new volume volume' numbers (Ok tt) → files_in new volume' ≡ without_orphans numbers (files_in old volume) }
+    ensures waiting { (T : Types) (old new : StoreState) (volume volume' : Volume) (numbers : List ℕ) (result : Result (Unit {0}) Fault) → IsOpen T old volume →
+        ReapDoes T old new volume volume' numbers result → WaitLess volume.memory.orphans volume'.memory.orphans (files_in new volume') }
+{
+    layout_is_known();
+    leaves_are_side_by_side();
+}
+
+/// `give_up` of an inode that has no number changes no file, whatever it answers. An inode that was begun is such a one.
+pub fn give_up_changes_no_file()
+    ensures begun { (T : Types) (state : StoreState) (volume : Volume) (block : ℕ) (inode : Inode) → IsOpen T state volume →
+        IsBegun state volume block inode → IsUnnamed state volume block }
+    ensures given { (T : Types) (old new : StoreState) (volume : Volume) (block : ℕ) (result : Result Bool Fault) → IsOpen T old volume →
+        IsUnnamed old volume block → GiveUpDoes T old new volume block result → IsOpen T new volume × (files_in new volume ≡ files_in old volume) }
+{
+    layout_is_known();
+    new_inodes_are_free();
+}
