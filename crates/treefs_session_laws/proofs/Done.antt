@@ -23,7 +23,7 @@ before_then T old middle new volume between volume' first next = record {
   clock = next.clock ∙ first.clock;
 }
 
-full_is : (fault : Fault) → is_full fault ≡ true → fault ≡ Full
+pub full_is : (fault : Fault) → is_full fault ≡ true → fault ≡ Full
 full_is Full is = refl
 full_is NoEntry is = absurd (cc is)
 full_is Exists is = absurd (cc is)

@@ -4,3 +4,12 @@ mod Room
 mod Names
 mod Space
 mod Faults
+mod Tried
+mod Freed
+mod Again
+mod Standing
+mod Closed
+mod Resized
+mod Altered
+mod Kept
+mod Sized

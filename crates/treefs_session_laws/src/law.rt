@@ -1,24 +1,20 @@
 // Laws of sessions.
 
-ghost use Rattle.std.specs.Prelude.{◌≡◌, ℕ, ℤ, ◌<◌, ◌≤◌, All, Bool, Err, FitsSigned, false, List, None, Ok, Result, [], length, true};
+ghost use Rattle.std.specs.Prelude.{◌≡◌, ℕ, ℤ, Bool, Err, FitsSigned, false, List, Ok, Result};
 ghost use Rattle.std.specs.Int.{w64};
 ghost use Rattle.xn_model.specs.Types.{Types};
 ghost use Rattle.xn_model.specs.Lives.{StoreState};
 ghost use Rattle.store_types.specs.declared.refusal.Refusal.{Refusal};
 ghost use Rattle.xn_kernel.specs.FlushedStates.{StateRefuses, StateWaves};
-ghost use Rattle.treefs_model.specs.Changes.{linked, removed, unlinked, with_mtime};
-ghost use Rattle.treefs_model.specs.Files.{Directory, File, SymbolicLink, and_then, changed_at, found, number_in};
+ghost use Rattle.treefs_model.specs.Changes.{unlinked, with_mtime};
+ghost use Rattle.treefs_model.specs.Files.{and_then, changed_at, found};
 ghost use Rattle.treefs_model.specs.declared.fault.Fault.{Fault};
 ghost use Rattle.treefs_model.specs.declared.fault.Fault.TheVariants.{Full};
 ghost use Rattle.treefs_byte_plans.specs.declared.attributes.Attributes.{Attributes};
-ghost use Rattle.treefs.specs.Creating.{CreateDoes, MkdirDoes, SymlinkDoes};
-ghost use Rattle.treefs.specs.Linking.{LinkDoes};
 ghost use Rattle.treefs.specs.Setting.{AttributesDoes, MtimeDoes};
-ghost use Rattle.treefs.specs.Unlinking.{RmdirDoes, UnlinkDoes};
-ghost use Rattle.treefs.specs.declared.attributes.Attributes.{Attributes as NewAttributes};
+ghost use Rattle.treefs.specs.Unlinking.{UnlinkDoes};
 ghost use Rattle.treefs.specs.declared.volume.Volume.{Volume};
-ghost use Rattle.treefs_laws.specs.Kept.{HasNoNames, files_in};
-ghost use Rattle.treefs_laws.specs.Making.{FitsAttributes, MakesInode, new_inode};
+ghost use Rattle.treefs_laws.specs.Kept.{files_in};
 ghost use Rattle.treefs_laws.specs.Open.{IsOpen};
 ghost use Rattle.treefs_laws.specs.Setting.{AreInWidth, with_attributes};
 ghost use Rattle.treefs_session.specs.Freeing.{MakesFreely, lacks_space};
@@ -27,12 +23,9 @@ ghost use Rattle.treefs_session_laws.specs.Before.{IsAsBefore};
 
 use flush_store::law::flushes_keep_newest;
 use treefs_laws::law::{
-    create_makes_a_file, link_makes_a_name, mkdir_makes_a_directory, open_volumes_stay_open,
-    refused_attributes_change_nothing, refused_link_answers_the_files,
-    refused_new_inodes_answer_the_files, refused_rmdir_answers_the_files,
-    refused_unlink_answers_the_files, rmdir_ends_an_empty_directory,
-    set_attributes_sets_what_is_told, set_mtime_sets_a_time, symlink_makes_a_link,
-    unlink_ends_a_name, write_times_changes_no_file,
+    open_volumes_stay_open, refused_attributes_change_nothing, refused_unlink_answers_the_files,
+    set_attributes_sets_what_is_told, set_mtime_sets_a_time, unlink_ends_a_name,
+    write_times_changes_no_file,
 };
 use treefs_session::Call;
 
@@ -116,64 +109,4 @@ pub fn sessions_set_a_time()
     refused_attributes_change_nothing();
     set_mtime_sets_a_time();
     open_volumes_stay_open();
-}
-
-/// `rmdir`, made until it has room, ends the name of a directory in which no name stands, and does nothing else.
-pub fn rmdir_is_done_once()
-    ensures { (T : Types) (left : ℕ) (old new : StoreState) (volume volume' : Volume) (d : ℕ) (name : List ℕ) → IsOpen T old volume →
-        Tries (λ s s' v v' result. RmdirDoes T s s' v v' d name result) T left old new volume volume' (Ok tt) →
-        IsOpen T new volume' × (n : ℕ) × (number_in (files_in old volume) d name ≡ Ok n) × HasNoNames (files_in old volume) n
-        × (removed (files_in old volume) volume.memory.clock d name true ≡ Ok (files_in new volume')) }
-{
-    making_room_changes_no_file();
-    refused_rmdir_answers_the_files();
-    rmdir_ends_an_empty_directory();
-    open_volumes_stay_open();
-}
-
-/// `link`, made until it has room, makes one more name, which was free, and does nothing else.
-pub fn link_is_done_once()
-    ensures { (T : Types) (left : ℕ) (old new : StoreState) (volume volume' : Volume) (n d : ℕ) (name : List ℕ) → IsOpen T old volume →
-        All (λ b. b < 256) name → Tries (λ s s' v v' result. LinkDoes T s s' v v' n d name result) T left old new volume volume' (Ok tt) →
-        IsOpen T new volume' × (linked (files_in old volume) volume.memory.clock n d name ≡ Ok (files_in new volume')) }
-{
-    making_room_changes_no_file();
-    refused_link_answers_the_files();
-    link_makes_a_name();
-}
-
-/// `create`, made until it has room, makes an empty file under a number and a name that were free, and does nothing else.
-pub fn create_is_done_once()
-    ensures { (T : Types) (left : ℕ) (old new : StoreState) (volume volume' : Volume) (d : ℕ) (name : List ℕ) (attributes : NewAttributes) (n : ℕ) →
-        IsOpen T old volume → FitsAttributes attributes → All (λ b. b < 256) name →
-        Tries (λ s s' v v' result. CreateDoes T s s' v v' d name attributes result) T left old new volume volume' (Ok n) →
-        IsOpen T new volume' × MakesInode old new volume volume' d name n (new_inode volume.memory.clock attributes (File [])) }
-{
-    making_room_changes_no_file();
-    refused_new_inodes_answer_the_files();
-    create_makes_a_file();
-}
-
-/// `mkdir`, made until it has room, makes a directory without a name, which stands in the one that has its name, and does nothing else.
-pub fn mkdir_is_done_once()
-    ensures { (T : Types) (left : ℕ) (old new : StoreState) (volume volume' : Volume) (d : ℕ) (name : List ℕ) (attributes : NewAttributes) (n : ℕ) →
-        IsOpen T old volume → FitsAttributes attributes → All (λ b. b < 256) name →
-        Tries (λ s s' v v' result. MkdirDoes T s s' v v' d name attributes result) T left old new volume volume' (Ok n) →
-        IsOpen T new volume' × MakesInode old new volume volume' d name n (new_inode volume.memory.clock attributes (Directory d (λ x. None))) }
-{
-    making_room_changes_no_file();
-    refused_new_inodes_answer_the_files();
-    mkdir_makes_a_directory();
-}
-
-/// `symlink`, made until it has room, makes a symbolic link to a target that stands in the inode, and does nothing else.
-pub fn symlink_is_done_once()
-    ensures { (T : Types) (left : ℕ) (old new : StoreState) (volume volume' : Volume) (d : ℕ) (name : List ℕ) (attributes : NewAttributes) (target : List ℕ)
-        (n : ℕ) → IsOpen T old volume → FitsAttributes attributes → All (λ b. b < 256) name → All (λ b. b < 256) target → length target ≤ 384 →
-        Tries (λ s s' v v' result. SymlinkDoes T s s' v v' d name attributes target result) T left old new volume volume' (Ok n) →
-        IsOpen T new volume' × MakesInode old new volume volume' d name n (new_inode volume.memory.clock attributes (SymbolicLink target)) }
-{
-    making_room_changes_no_file();
-    refused_new_inodes_answer_the_files();
-    symlink_makes_a_link();
 }

@@ -2,4 +2,6 @@
 //! May touch: nothing.
 #![tactic(auto)]
 
+pub mod bytes;
 pub mod law;
+pub mod orphans;
