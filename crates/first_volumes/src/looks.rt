@@ -1,5 +1,7 @@
 // An open volume of the first library file system is looked at: its permissions, owners and times are made up, as it has none.
 
+ghost use Rattle.std.specs.Prelude.{◌≡◌, IfOk, ⊤};
+
 use crate::reasons::seen;
 use crate::volume::FirstVolume;
 use flush_store::FlushStore;
@@ -26,7 +28,9 @@ fn inode_of(number: u32) -> Result<u16, Reason> {
 }
 
 /// What stands at a number.
-fn node_of<S: FlushStore + Drop>(session: &Session<S>, number: u32) -> Result<Node, Reason> {
+fn node_of<S: FlushStore + Drop>(session: &Session<S>, number: u32) -> Result<Node, Reason>
+    ensures { IfOk result (λ node. node.number ≡ number) }
+{
     let found = seen(session.node(inode_of(number)?))?;
     let (kind, permissions) = if found.is_directory {
         (Kind::Directory, 0o755)
@@ -118,6 +122,13 @@ fn step_of<S: FlushStore + Drop>(
 }
 
 impl<S: FlushStore + Drop> View for FirstVolume<S> {
+    // nothing is said of where names and paths lead there
+    ghost leads = { λ s folder path last result. ⊤ };
+
+    ghost names_number = { λ s folder name result. ⊤ };
+
+    ghost shows = { λ s number result. IfOk result (λ node. node.number ≡ number) };
+
     fn node(&self, number: u32) -> Result<Node, Reason> {
         node_of(&self.session, number)
     }

@@ -1,5 +1,7 @@
 // What is told where a line can't be done.
 
+ghost use Rattle.tree_lines.specs.Faults.{TellsReason};
+
 use crate::reason::Reason;
 use crate::showing::shown;
 use file_disk::FileFault;
@@ -61,7 +63,9 @@ impl<T: Drop> From<AllocFailed<T>> for Fault {
 }
 
 /// The fault of a reason at a path, whatever its bytes are.
-pub fn at_bytes(alloc: Global, path: &[u8], reason: Reason) -> Fault {
+pub fn at_bytes(alloc: Global, path: &[u8], reason: Reason) -> Fault
+    ensures { TellsReason result reason }
+{
     match (shown(alloc, path), reason) {
         (_, Reason::NoMemory) => Fault::NoMemory,
         (Ok(path), reason) => Fault::At { path, reason },
@@ -70,7 +74,9 @@ pub fn at_bytes(alloc: Global, path: &[u8], reason: Reason) -> Fault {
 }
 
 /// The fault of a reason at a path.
-pub fn at(alloc: Global, path: &str, reason: Reason) -> Fault {
+pub fn at(alloc: Global, path: &str, reason: Reason) -> Fault
+    ensures { TellsReason result reason }
+{
     at_bytes(alloc, path.as_bytes(), reason)
 }
 

@@ -1,5 +1,9 @@
 // What stands in a volume, as words see it.
 
+ghost use Rattle.std.specs.Prelude.{◌≡◌, ◌↔◌, IsTrue};
+ghost use Rattle.treefs_format.specs.declared.kind.Kind.TheVariants.{SymbolicLink};
+ghost use Rattle.tree_lines.specs.Places.{IsFolder};
+
 use treefs_format::Kind;
 
 /// What stands at a number of a volume.
@@ -23,12 +27,16 @@ pub struct Node {
 
 impl Node {
     /// Whether it is a folder.
-    pub fn is_folder(&self) -> bool {
+    pub fn is_folder(&self) -> bool
+        ensures { IsTrue result ↔ IsFolder self.now }
+    {
         self.kind == Kind::Directory
     }
 
     /// Whether it is a symbolic link.
-    pub fn is_link(&self) -> bool {
+    pub fn is_link(&self) -> bool
+        ensures { IsTrue result ↔ (self.now.kind ≡ SymbolicLink) }
+    {
         self.kind == Kind::SymbolicLink
     }
 }

@@ -1,7 +1,14 @@
 // An open volume of trees, and what its lines know of it.
 
-ghost use Rattle.std.specs.Prelude.{IfOk, OnOk};
+ghost use Rattle.std.specs.Prelude.{◌≡◌, ◌∷◌, Bool, IfErr, IfOk, List, MatchBool, OnOk, Result, [], length};
 ghost use Rattle.flush_store.specs.Written.{AllWritten};
+ghost use Rattle.treefs_model.specs.declared.fault.Fault.{Fault as Why};
+ghost use Rattle.treefs_mounts.specs.Opening.{MendsVolume};
+ghost use Rattle.treefs_session.specs.Freeing.{GivesUp, MakesFreely, Syncs};
+ghost use Rattle.treefs_session.specs.Opening.{Closes, IsNotClosed, IsNotOpened, IsOpened};
+ghost use Rattle.treefs_session.specs.Pieces.{WritesAll};
+ghost use Rattle.treefs_session.specs.Puts.{PutDoes};
+ghost use Rattle.tree_lines.specs.Answers.{Answers, IsTold};
 
 use crate::fault::{Fault, at_bytes};
 use crate::paths::TOP;
@@ -65,14 +72,22 @@ fn volume_fault(system: &Option<SystemFault>, fault: TreeFault) -> Fault {
 }
 
 impl<S: FlushStore + Drop> Opened<S> {
-    /// Opens the volume of trees of a file system of a store, as `open` of a session does it. Where the disk is one in a file its faults are told by the
+    /// Opens the volume of trees of a file system of a store, told with the types of its blocks and the time, as `open` of a session does it. Where the disk is one in a file its faults are told by the
     /// system's reason.
     pub fn open(
         alloc: Global,
         store: S,
-        (fs, types, time): (Fs, BlockTypes, i64),
+        opening: (Fs, BlockTypes, i64),
         system: Option<SystemFault>,
-    ) -> Result<Opened<S>, Fault> {
+    ) -> Result<Opened<S>, Fault>
+        ensures types { IfOk result (λ opened. S.types_of opened.session.store ≡ S.types_of store) }
+        ensures ok { IfOk result (λ opened.
+            IsOpened (S.types_of store) (S.state_of store) (S.state_of opened.session.store) opening.0 opening.1 opening.2
+            opened.session.volume) }
+        ensures fresh { IfOk result (λ opened. (opened.folder ≡ 1) × (length opened.told.faults.items ≡ 0)) }
+        ensures err { IfErr result (λ told. (why : Why) × IsNotOpened (S.types_of store) (S.state_of store) opening.0 opening.1 opening.2 why) }
+    {
+        let (fs, types, time) = opening;
         match Session::open(alloc, store, fs, types, time) {
             Ok(session) => Ok(Opened {
                 session,
@@ -86,7 +101,13 @@ impl<S: FlushStore + Drop> Opened<S> {
     }
 
     /// Mends the volume, which was just opened, also where it had been closed, as `mend` of a session does it.
-    pub fn mend(&mut self, alloc: Global) -> Result<(), Fault> {
+    pub fn mend(&mut self, alloc: Global) -> Result<(), Fault>
+        ensures types { S.types_of self.new.session.store ≡ S.types_of self.old.session.store }
+        ensures folder { self.new.folder ≡ self.old.folder }
+        ensures told { self.new.told ≡ self.old.told }
+        ensures does { Answers (MendsVolume (S.types_of self.old.session.store)
+            (S.state_of self.old.session.store) (S.state_of self.new.session.store) self.old.session.volume self.new.session.volume) result }
+    {
         match self.session.mend(alloc) {
             Ok(()) => Ok(()),
             Err(fault) => {
@@ -103,12 +124,18 @@ impl<S: FlushStore + Drop> Opened<S> {
     }
 
     /// Whether nothing more can be done.
-    pub fn is_broken(&self) -> bool {
+    pub fn is_broken(&self) -> bool
+        ensures { result ≡ self.now.is_broken }
+    {
         self.is_broken
     }
 
     /// The fault of a call at a path.
-    fn fault_at(&mut self, alloc: Global, path: &[u8], fault: TreeFault, is_naming: bool) -> Fault {
+    fn fault_at(&mut self, alloc: Global, path: &[u8], fault: TreeFault, is_naming: bool) -> Fault
+        ensures session { self.new.session ≡ self.old.session }
+        ensures folder { self.new.folder ≡ self.old.folder }
+        ensures told { self.new.told ≡ self.old.told }
+    {
         let free = self.session.store().state().free();
         match fault {
             TreeFault::Kernel(refusal) => {
@@ -127,7 +154,12 @@ impl<S: FlushStore + Drop> Opened<S> {
         path: &[u8],
         answer: Result<A, TreeFault>,
         is_naming: bool,
-    ) -> Result<A, Fault> {
+    ) -> Result<A, Fault>
+        ensures session { self.new.session ≡ self.old.session }
+        ensures folder { self.new.folder ≡ self.old.folder }
+        ensures told { self.new.told ≡ self.old.told }
+        ensures answer { IsTold answer result }
+    {
         match answer {
             Ok(answer) => Ok(answer),
             Err(fault) => Err(self.fault_at(alloc, path, fault, is_naming)),
@@ -143,6 +175,11 @@ impl<S: FlushStore + Drop> Opened<S> {
     ) -> Result<C::Answer, Fault>
     where
         C::Answer: Drop,
+        ensures types { S.types_of self.new.session.store ≡ S.types_of self.old.session.store }
+        ensures folder { self.new.folder ≡ self.old.folder }
+        ensures told { self.new.told ≡ self.old.told }
+        ensures does { Answers (MakesFreely (C.does call.now (S.types_of self.old.session.store)) (S.types_of self.old.session.store) (self.old.folder ∷ [])
+            (S.state_of self.old.session.store) (S.state_of self.new.session.store) self.old.session.volume self.new.session.volume) result }
     {
         let held = [self.folder];
         let answer = self.session.make(alloc, &held, call);
@@ -158,6 +195,11 @@ impl<S: FlushStore + Drop> Opened<S> {
     ) -> Result<C::Answer, Fault>
     where
         C::Answer: Drop,
+        ensures types { S.types_of self.new.session.store ≡ S.types_of self.old.session.store }
+        ensures folder { self.new.folder ≡ self.old.folder }
+        ensures told { self.new.told ≡ self.old.told }
+        ensures does { Answers (MakesFreely (C.does call.now (S.types_of self.old.session.store)) (S.types_of self.old.session.store) (self.old.folder ∷ [])
+            (S.state_of self.old.session.store) (S.state_of self.new.session.store) self.old.session.volume self.new.session.volume) result }
     {
         let held = [self.folder];
         let answer = self.session.make(alloc, &held, call);
@@ -165,7 +207,13 @@ impl<S: FlushStore + Drop> Opened<S> {
     }
 
     /// Puts a whole file or symbolic link, as `put` of a session does, and answers its number. Its fault is told at a path.
-    pub fn put(&mut self, alloc: Global, path: &[u8], put: &Put) -> Result<u32, Fault> {
+    pub fn put(&mut self, alloc: Global, path: &[u8], put: &Put) -> Result<u32, Fault>
+        ensures types { S.types_of self.new.session.store ≡ S.types_of self.old.session.store }
+        ensures folder { self.new.folder ≡ self.old.folder }
+        ensures told { self.new.told ≡ self.old.told }
+        ensures does { Answers (PutDoes (S.types_of self.old.session.store) (self.old.folder ∷ []) put.now
+            (S.state_of self.old.session.store) (S.state_of self.new.session.store) self.old.session.volume self.new.session.volume) result }
+    {
         let held = [self.folder];
         let answer = self.session.put(alloc, &held, put);
         self.answered(alloc, path, answer, true)
@@ -178,14 +226,27 @@ impl<S: FlushStore + Drop> Opened<S> {
         path: &[u8],
         target: Target,
         bytes: &[u8],
-    ) -> Result<(), Fault> {
+    ) -> Result<(), Fault>
+        ensures types { S.types_of self.new.session.store ≡ S.types_of self.old.session.store }
+        ensures folder { self.new.folder ≡ self.old.folder }
+        ensures told { self.new.told ≡ self.old.told }
+        ensures does { Answers (WritesAll (S.types_of self.old.session.store) (self.old.folder ∷ []) target bytes.now
+            (S.state_of self.old.session.store) (S.state_of self.new.session.store) self.old.session.volume self.new.session.volume) result }
+    {
         let held = [self.folder];
         let answer = self.session.write_all(alloc, &held, target, bytes);
         self.answered(alloc, path, answer, false)
     }
 
     /// Gives up an inode that was begun and got no name, by its block. What can't be given up now is freed by the next opening, and is not told.
-    pub fn give_up(&mut self, alloc: Global, block: u32) {
+    pub fn give_up(&mut self, alloc: Global, block: u32)
+        ensures types { S.types_of self.new.session.store ≡ S.types_of self.old.session.store }
+        ensures folder { self.new.folder ≡ self.old.folder }
+        ensures told { self.new.told ≡ self.old.told }
+        ensures does { MatchBool self.old.is_broken (self.new.session ≡ self.old.session) ((given : Result Bool Why)
+            × GivesUp (S.types_of self.old.session.store) block (S.state_of self.old.session.store) (S.state_of self.new.session.store)
+            self.old.session.volume self.new.session.volume given) }
+    {
         if self.is_broken {
             return;
         }
@@ -194,6 +255,11 @@ impl<S: FlushStore + Drop> Opened<S> {
 
     /// Writes all that is pending, and frees what no name leads to, but for the folder that is held.
     pub fn sync(&mut self, alloc: Global) -> Result<(), Fault>
+        ensures types { S.types_of self.new.session.store ≡ S.types_of self.old.session.store }
+        ensures folder { self.new.folder ≡ self.old.folder }
+        ensures told { self.new.told ≡ self.old.told }
+        ensures does { Answers (Syncs (S.types_of self.old.session.store) (self.old.folder ∷ [])
+            (S.state_of self.old.session.store) (S.state_of self.new.session.store) self.old.session.volume self.new.session.volume) result }
         ensures written { OnOk result (AllWritten (S.state_of self.new.session.store).lives) }
     {
         closes_and_syncs_write();
@@ -206,6 +272,8 @@ impl<S: FlushStore + Drop> Opened<S> {
 
     /// Closes the volume: what no name leads to is freed, and all is written. Answers the store, of which nothing is pending any more.
     pub fn close(self, alloc: Global) -> Result<S, Fault>
+        ensures ok { IfOk result (λ store. (S.types_of store ≡ S.types_of self.session.store)
+            × Closes (S.types_of self.session.store) (S.state_of self.session.store) (S.state_of store) self.session.volume) }
         ensures written { IfOk result (λ store. AllWritten (S.state_of store).lives) }
     {
         closes_and_syncs_write();
@@ -223,7 +291,9 @@ impl<S: FlushStore + Drop> Opened<S> {
     }
 
     /// The session again.
-    pub fn into_session(self) -> Session<S> {
+    pub fn into_session(self) -> Session<S>
+        ensures { result ≡ self.session }
+    {
         let Opened {
             session,
             told: _,

@@ -1,5 +1,9 @@
 // Where paths of a line lead in a volume.
 
+ghost use Rattle.std.specs.Prelude.{◌≡◌, IfErr, IfOk};
+ghost use Rattle.tree_lines.specs.Faults.{LacksPlace};
+ghost use Rattle.tree_lines.specs.Places.{IsFoundNode, IsGoal, IsLastName, IsOwnName, IsPlace, IsThere, goal_folder, goal_name, goal_slash};
+
 use crate::fault::{Fault, at};
 use crate::node::Node;
 use crate::reason::Reason;
@@ -26,7 +30,9 @@ pub fn find<V: View>(
     folder: u32,
     path: &str,
     is_followed: bool,
-) -> Result<Node, Fault> {
+) -> Result<Node, Fault>
+    ensures { IfOk result (IsFoundNode (V.leads view.now) (V.shows view.now) folder path.now is_followed) }
+{
     if path.is_empty() {
         return Err(Fault::Volume(Reason::Empty));
     }
@@ -46,7 +52,10 @@ pub fn place_of<'p, V: View>(
     alloc: Global,
     folder: u32,
     path: &'p str,
-) -> Result<Place<'p>, Fault> {
+) -> Result<Place<'p>, Fault>
+    ensures ok { IfOk result (λ place. IsPlace (V.leads view.now) folder path.now place.folder place.name.now place.has_slash) }
+    ensures err { IfErr result (LacksPlace (V.leads view.now) folder path.now) }
+{
     if path.is_empty() {
         return Err(Fault::Volume(Reason::Empty));
     }
@@ -65,7 +74,9 @@ pub fn place_of<'p, V: View>(
 }
 
 /// What a name in a folder leads to, if there is such a name. A symbolic link is not followed.
-pub fn there<V: View>(view: &V, place: Place) -> Result<Option<Node>, Reason> {
+pub fn there<V: View>(view: &V, place: Place) -> Result<Option<Node>, Reason>
+    ensures { IfOk result (IsThere (V.names_number view.now) (V.shows view.now) place.entry.folder place.entry.name.now) }
+{
     match view.look_up(place.folder, place.name) {
         Ok(number) => Ok(Some(view.node(number)?)),
         Err(Reason::Missing) => Ok(None),
@@ -74,13 +85,17 @@ pub fn there<V: View>(view: &V, place: Place) -> Result<Option<Node>, Reason> {
 }
 
 /// The last name of a path; of one of slashes alone the path.
-pub fn last_name(path: &[u8]) -> &[u8] {
+pub fn last_name(path: &[u8]) -> &[u8]
+    ensures { IsLastName path.now result.now }
+{
     let name = split_path(path).name;
     if name.is_empty() { path } else { name }
 }
 
 /// The name that something at a path keeps where it goes into a folder: the last one. The top folder has none, and `.` and `..` are none.
-pub fn own_name(alloc: Global, path: &str) -> Result<&[u8], Fault> {
+pub fn own_name(alloc: Global, path: &str) -> Result<&[u8], Fault>
+    ensures { IfOk result (λ name. IsOwnName path.now name.now) }
+{
     let name = split_path(path.as_bytes()).name;
     if name.is_empty() || name == b".".as_slice() || name == b"..".as_slice() {
         return Err(at(alloc, path, Reason::NoOwnName));
@@ -99,7 +114,11 @@ pub enum Goal<'p> {
 
 impl<'p> Goal<'p> {
     /// The place of what goes there, which has this name of its own.
-    pub fn place(self, name: &'p [u8]) -> Place<'p> {
+    pub fn place(self, name: &'p [u8]) -> Place<'p>
+        ensures folder { result.folder ≡ goal_folder self.entry }
+        ensures name { result.name.now ≡ goal_name self.entry name.now }
+        ensures slash { result.has_slash ≡ goal_slash self.entry }
+    {
         match self {
             Goal::Into(folder) => Place {
                 folder,
@@ -119,7 +138,9 @@ pub fn find_to<'p, V: View>(
     folder: u32,
     path: &'p str,
     are_several: bool,
-) -> Result<Goal<'p>, Fault> {
+) -> Result<Goal<'p>, Fault>
+    ensures { IfOk result (IsGoal (V.leads view.now) (V.shows view.now) folder path.now are_several) }
+{
     if path.is_empty() {
         return Err(Fault::Volume(Reason::Empty));
     }

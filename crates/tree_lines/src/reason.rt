@@ -1,5 +1,8 @@
 // Why something can't be done at a path.
 
+ghost use Rattle.std.specs.Prelude.{◌≡◌};
+ghost use Rattle.tree_lines.specs.Reasons.{naming_reason_of, path_reason_of, reason_of, refusal_reason_of};
+
 use std::alloc::{AllocError, AllocFailed};
 use store_types::Refusal;
 use thiserror::Error;
@@ -83,7 +86,9 @@ impl<T: Drop> From<AllocFailed<T>> for Reason {
 }
 
 /// What a refusal of the store is at a path; so many blocks are free.
-pub fn refusal_reason_of(refusal: Refusal, free: u32) -> Reason {
+pub fn refusal_reason_of(refusal: Refusal, free: u32) -> Reason
+    ensures { result ≡ refusal_reason_of refusal free }
+{
     match refusal {
         Refusal::NoMemory => Reason::NoMemory,
         Refusal::NoSpace => Reason::NoSpace { free },
@@ -92,7 +97,9 @@ pub fn refusal_reason_of(refusal: Refusal, free: u32) -> Reason {
 }
 
 /// What the fault of a call on bytes or attributes of a volume of trees is at a path; so many blocks are free.
-pub fn reason_of(fault: TreeFault, free: u32) -> Reason {
+pub fn reason_of(fault: TreeFault, free: u32) -> Reason
+    ensures { result ≡ reason_of fault free }
+{
     match fault {
         TreeFault::NoEntry => Reason::Missing,
         TreeFault::Exists => Reason::There,
@@ -111,7 +118,9 @@ pub fn reason_of(fault: TreeFault, free: u32) -> Reason {
 }
 
 /// What the fault of a call that makes a name is at a path: what is too large is the folder.
-pub fn naming_reason_of(fault: TreeFault, free: u32) -> Reason {
+pub fn naming_reason_of(fault: TreeFault, free: u32) -> Reason
+    ensures { result ≡ naming_reason_of fault free }
+{
     match fault {
         TreeFault::TooLarge => Reason::NoPlace,
         _ => reason_of(fault, free),
@@ -119,7 +128,9 @@ pub fn naming_reason_of(fault: TreeFault, free: u32) -> Reason {
 }
 
 /// What the fault of a path is: what goes round are symbolic links, and what is too large is the target of one.
-pub fn path_reason_of(fault: TreeFault) -> Reason {
+pub fn path_reason_of(fault: TreeFault) -> Reason
+    ensures { result ≡ path_reason_of fault }
+{
     match fault {
         TreeFault::Cycle => Reason::Loop,
         TreeFault::TooLarge => Reason::LongTarget,

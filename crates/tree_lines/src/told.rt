@@ -1,5 +1,8 @@
 // Faults that end nothing, and are told at the end of a line.
 
+ghost use Rattle.std.specs.Prelude.{◌≡◌, ◌==◌, IfOk, length};
+ghost use Rattle.tree_lines.specs.Telling.{GoesOn, LeavesOut};
+
 use crate::fault::Fault;
 use std::alloc::{AllocError, Global};
 
@@ -15,7 +18,9 @@ pub struct Told {
 
 impl Told {
     /// Nothing is to be told.
-    pub fn nothing(alloc: Global) -> Told {
+    pub fn nothing(alloc: Global) -> Told
+        ensures { length result.faults.items ≡ 0 }
+    {
         Told {
             faults: Vec::new(alloc),
             more: 0,
@@ -23,7 +28,9 @@ impl Told {
     }
 
     /// Keeps a fault that ends nothing. `Err` comes only for want of memory.
-    pub fn tell(&mut self, fault: Fault) -> Result<(), AllocError> {
+    pub fn tell(&mut self, fault: Fault) -> Result<(), AllocError>
+        ensures { IfOk result (λ done. LeavesOut self.old self.new 1) }
+    {
         if self.faults.len() < MOST_TOLD {
             self.faults.push(fault)?;
         } else {
@@ -34,7 +41,9 @@ impl Told {
 
     /// Keeps the fault of a path after which a word goes on with the next one, and passes those on after which it can't: want of memory, and of streams and
     /// of the disk.
-    pub fn go_on(&mut self, done: Result<(), Fault>) -> Result<(), Fault> {
+    pub fn go_on(&mut self, done: Result<(), Fault>) -> Result<(), Fault>
+        ensures { GoesOn self.old self.new done result }
+    {
         match done {
             Ok(()) => Ok(()),
             Err(fault) => {
@@ -52,7 +61,9 @@ impl Told {
     }
 
     /// Whether nothing is to be told.
-    pub fn is_empty(&self) -> bool {
+    pub fn is_empty(&self) -> bool
+        ensures { result ≡ (length self.now.faults.items == 0) }
+    {
         self.faults.is_empty()
     }
 

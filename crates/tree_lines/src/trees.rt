@@ -1,5 +1,8 @@
 // An open volume of trees is looked at.
 
+ghost use Rattle.std.specs.Prelude.{◌≡◌};
+ghost use Rattle.tree_lines.specs.Looks.{FindsPath, node_seen, number_seen};
+
 use crate::counting::block_count;
 use crate::node::{Named, Node, Stretch, Usage};
 use crate::reason::{Reason, path_reason_of, reason_of};
@@ -33,6 +36,12 @@ fn push_names(alloc: Global, names: &mut Vec<Named>, bucket: &Bucket) -> Result<
 }
 
 impl<S: FlushStore + Drop> View for Session<S> {
+    ghost leads = { λ s folder path last result. FindsPath (S.state_of s.store) s.volume folder path last result };
+
+    ghost names_number = { λ s folder name result. result ≡ number_seen (S.state_of s.store) s.volume folder name };
+
+    ghost shows = { λ s number result. result ≡ node_seen (S.state_of s.store) s.volume number };
+
     fn node(&self, number: u32) -> Result<Node, Reason> {
         match self.volume().stat(self.store(), number) {
             Ok(found) => Ok(Node {

@@ -1,16 +1,31 @@
 // What words ask of a volume that they look at.
 
+ghost use Rattle.std.specs.Prelude.{ℕ, Bool, List, Result};
+ghost use Rattle.tree_lines.specs.declared.node.Node.{Node};
+ghost use Rattle.tree_lines.specs.declared.reason.Reason.{Reason};
+
 use crate::node::{Named, Node, Stretch, Usage};
 use crate::reason::Reason;
 use std::alloc::{AllocError, Global};
 
 /// A volume that can be looked at. A number stands for what a name leads to; the top folder has 1.
 pub trait View {
+    /// What `find` may answer, of a folder, a path, and whether a symbolic link at its end is followed.
+    ghost leads: { Self → ℕ → List ℕ → Bool → Result ℕ Reason → Type 0 };
+
+    /// What `look_up` may answer, of a folder and a name.
+    ghost names_number: { Self → ℕ → List ℕ → Result ℕ Reason → Type 0 };
+
+    /// What `node` may answer, of a number.
+    ghost shows: { Self → ℕ → Result Node Reason → Type 0 };
+
     /// What stands at a number. Reasons are `Missing`, and those of the store.
-    fn node(&self, number: u32) -> Result<Node, Reason>;
+    fn node(&self, number: u32) -> Result<Node, Reason>
+        ensures { shows self.now number result };
 
     /// The number to which a name in a folder leads. Reasons are `Missing`, `NoFolder`, `BadName`.
-    fn look_up(&self, folder: u32, name: &[u8]) -> Result<u32, Reason>;
+    fn look_up(&self, folder: u32, name: &[u8]) -> Result<u32, Reason>
+        ensures { names_number self.now folder name.now result };
 
     /// The names in a folder, rising by their bytes. Reasons are `Missing`, `NoFolder`, `NoMemory`.
     fn names(&self, alloc: Global, folder: u32) -> Result<Vec<Named>, Reason>;
@@ -37,7 +52,8 @@ pub trait View {
         folder: u32,
         path: &[u8],
         is_followed: bool,
-    ) -> Result<u32, Reason>;
+    ) -> Result<u32, Reason>
+        ensures { leads self.now folder path.now is_followed result };
 
     /// What is taken and left, and the limits.
     fn usage(&self) -> Usage;

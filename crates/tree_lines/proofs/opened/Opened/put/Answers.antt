@@ -1,0 +1,19 @@
+use Rattle.std.proofs.Common.{◌≡◌, [], ◌∷◌}
+use Rattle.xn_model.specs.Lives.{StoreState}
+use Rattle.treefs.specs.declared.volume.Volume.{Volume}
+use Rattle.treefs_session.specs.Puts.{PutDoes}
+use Rattle.tree_lines.proofs.Answered.{answers_at}
+use Rattle.tree_lines.proofs.opened.Opened.put.Goals as goal
+
+pub returns-clause-does : goal.returns-clause-does
+returns-clause-does g c =
+    let self = c.args.self.now in
+    let T = g.S.Store.types_of self.session.store in
+    let old = g.S.Store.state_of self.session.store in
+    let after = c.put-answer.new.self in
+    let told = c.answered.new.self.session in
+    let state_is : g.S.Store.state_of told.store ≡ g.S.Store.state_of after.store = rw c.answered.ensures.session in
+    let volume_is : told.volume ≡ after.volume = rw c.answered.ensures.session in
+    answers_at (λ (new : StoreState) (volume : Volume). PutDoes T (self.folder ∷ []) c.args.put.now old new self.session.volume volume)
+    (g.S.Store.state_of after.store) (g.S.Store.state_of told.store) after.volume told.volume c.put-answer.result c.answered.result state_is volume_is
+    c.put-answer.ensures.does c.answered.ensures.answer
