@@ -1,6 +1,7 @@
 // What is said of new files, folders and symbolic links.
 
-ghost use Rattle.std.specs.Prelude.{◌<◌};
+ghost use Rattle.std.specs.Prelude.{◌≡◌, ◌%◌, ◌<◌};
+ghost use Rattle.tree_changes.specs.Folders.{IsNew};
 
 use flush_store::FlushStore;
 use tree_lines::{Node, Opened};
@@ -8,7 +9,8 @@ use treefs::Attributes;
 
 /// What is said of something new in a volume with these permissions, which belongs to user and group 0.
 pub fn attributes_with<S: FlushStore + Drop>(opened: &Opened<S>, permissions: u16) -> Attributes
-    ensures { result.permissions < 4096 }
+    ensures in_range { result.permissions < 4096 }
+    ensures new { IsNew result (permissions % 4096) }
 {
     Attributes {
         permissions: permissions % 4096,

@@ -1,5 +1,9 @@
 // The words `mkdir` and `rmdir`.
 
+ghost use Rattle.std.specs.Prelude.{◌≡◌, map};
+ghost use Rattle.tree_changes.specs.Folders.{GivesUpFolder, IsFolderKept};
+ghost use Rattle.tree_changes.specs.Paths.{AtPath, DoesPaths};
+
 use crate::attributes::attributes_with;
 use flush_store::FlushStore;
 use std::alloc::Global;
@@ -87,7 +91,14 @@ fn remove_folder<S: FlushStore + Drop>(
     opened: &mut Opened<S>,
     alloc: Global,
     path: &str,
-) -> Result<(), Fault> {
+) -> Result<(), Fault>
+    ensures types { S.types_of opened.new.session.store ≡ S.types_of opened.old.session.store }
+    ensures folder { opened.new.folder ≡ opened.old.folder }
+    ensures told { opened.new.told ≡ opened.old.told }
+    ensures does { AtPath (GivesUpFolder (S.types_of opened.old.session.store) opened.old.folder)
+        (IsFolderKept (S.types_of opened.old.session.store) opened.old.folder) path.now
+        (S.state_of opened.old.session.store) (S.state_of opened.new.session.store) opened.old.session.volume opened.new.session.volume result }
+{
     let place = place_of(&opened.session, alloc, opened.folder, path)?;
     let rmdir = Rmdir {
         directory: place.folder,
@@ -101,7 +112,13 @@ pub fn remove_folders<S: FlushStore + Drop>(
     opened: &mut Opened<S>,
     alloc: Global,
     paths: &[&str],
-) -> Result<(), Fault> {
+) -> Result<(), Fault>
+    ensures types { S.types_of opened.new.session.store ≡ S.types_of opened.old.session.store }
+    ensures folder { opened.new.folder ≡ opened.old.folder }
+    ensures does { DoesPaths (GivesUpFolder (S.types_of opened.old.session.store) opened.old.folder)
+        (IsFolderKept (S.types_of opened.old.session.store) opened.old.folder) (map (λ path. path.now) paths.now) opened.old.told opened.new.told
+        (S.state_of opened.old.session.store) (S.state_of opened.new.session.store) opened.old.session.volume opened.new.session.volume result }
+{
     for path in paths {
         let done = remove_folder(opened, alloc, path);
         opened.told.go_on(done)?;

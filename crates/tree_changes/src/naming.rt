@@ -1,5 +1,9 @@
 // The word `ln`.
 
+ghost use Rattle.std.specs.Prelude.{◌≡◌, IfOk, MatchResult};
+ghost use Rattle.tree_changes.specs.Naming.{IsOwnFor, IsUnlinked, IsUnlinkedTo, Links, LinksTo};
+ghost use Rattle.tree_changes.specs.declared.naming.Linking.TheVariants.{Hard, Symbolic};
+
 use crate::attributes::attributes_with;
 use crate::moving::goal_path;
 use flush_store::FlushStore;
@@ -28,8 +32,18 @@ fn link_hard<S: FlushStore + Drop>(
     opened: &mut Opened<S>,
     alloc: Global,
     target: &str,
-    (path, place): (&[u8], Place),
-) -> Result<(), Fault> {
+    to: (&[u8], Place),
+) -> Result<(), Fault>
+    ensures types { S.types_of opened.new.session.store ≡ S.types_of opened.old.session.store }
+    ensures folder { opened.new.folder ≡ opened.old.folder }
+    ensures told { opened.new.told ≡ opened.old.told }
+    ensures does { MatchResult result
+        (λ done. LinksTo (S.types_of opened.old.session.store) opened.old.folder Hard target.now to.entry.1.folder to.entry.1.name.now
+        (S.state_of opened.old.session.store) (S.state_of opened.new.session.store) opened.old.session.volume opened.new.session.volume)
+        (λ fault. IsUnlinkedTo (S.types_of opened.old.session.store) opened.old.folder Hard target.now to.entry.1.folder to.entry.1.name.now
+        (S.state_of opened.old.session.store) (S.state_of opened.new.session.store) opened.old.session.volume opened.new.session.volume) }
+{
+    let (path, place) = to;
     let node = find(&opened.session, alloc, opened.folder, target, false)?;
     if node.is_folder() {
         return Err(at(alloc, target, Reason::Folder));
@@ -47,8 +61,18 @@ fn link_symbolic<S: FlushStore + Drop>(
     opened: &mut Opened<S>,
     alloc: Global,
     target: &str,
-    (path, place): (&[u8], Place),
-) -> Result<(), Fault> {
+    to: (&[u8], Place),
+) -> Result<(), Fault>
+    ensures types { S.types_of opened.new.session.store ≡ S.types_of opened.old.session.store }
+    ensures folder { opened.new.folder ≡ opened.old.folder }
+    ensures told { opened.new.told ≡ opened.old.told }
+    ensures does { MatchResult result
+        (λ done. LinksTo (S.types_of opened.old.session.store) opened.old.folder Symbolic target.now to.entry.1.folder to.entry.1.name.now
+        (S.state_of opened.old.session.store) (S.state_of opened.new.session.store) opened.old.session.volume opened.new.session.volume)
+        (λ fault. IsUnlinkedTo (S.types_of opened.old.session.store) opened.old.folder Symbolic target.now to.entry.1.folder to.entry.1.name.now
+        (S.state_of opened.old.session.store) (S.state_of opened.new.session.store) opened.old.session.volume opened.new.session.volume) }
+{
+    let (path, place) = to;
     if target.len() > TARGET_LEN {
         return Err(at_bytes(alloc, path, Reason::LongTarget));
     }
@@ -64,6 +88,39 @@ fn link_symbolic<S: FlushStore + Drop>(
     Ok(())
 }
 
+/// The name that a target has, in a folder that is there.
+fn own_of(alloc: Global, target: &str, linking: Linking) -> Result<&[u8], Fault>
+    ensures { IfOk result (λ own. IsOwnFor linking target.now own.now) }
+{
+    match linking {
+        Linking::Hard => own_name(alloc, target),
+        Linking::Symbolic => Ok(last_name(target.as_bytes())),
+    }
+}
+
+/// Makes what `ln` makes at a place.
+fn link_to<S: FlushStore + Drop>(
+    opened: &mut Opened<S>,
+    alloc: Global,
+    target: &str,
+    to: (&[u8], Place),
+    linking: Linking,
+) -> Result<(), Fault>
+    ensures types { S.types_of opened.new.session.store ≡ S.types_of opened.old.session.store }
+    ensures folder { opened.new.folder ≡ opened.old.folder }
+    ensures told { opened.new.told ≡ opened.old.told }
+    ensures does { MatchResult result
+        (λ done. LinksTo (S.types_of opened.old.session.store) opened.old.folder linking target.now to.entry.1.folder to.entry.1.name.now
+        (S.state_of opened.old.session.store) (S.state_of opened.new.session.store) opened.old.session.volume opened.new.session.volume)
+        (λ fault. IsUnlinkedTo (S.types_of opened.old.session.store) opened.old.folder linking target.now to.entry.1.folder to.entry.1.name.now
+        (S.state_of opened.old.session.store) (S.state_of opened.new.session.store) opened.old.session.volume opened.new.session.volume) }
+{
+    match linking {
+        Linking::Hard => link_hard(opened, alloc, target, to),
+        Linking::Symbolic => link_symbolic(opened, alloc, target, to),
+    }
+}
+
 /// `ln`: gives a file one more name, or makes a symbolic link with a target, which is not looked up. In a folder that is there the name is the last one of the
 /// target.
 pub fn link<S: FlushStore + Drop>(
@@ -72,22 +129,25 @@ pub fn link<S: FlushStore + Drop>(
     target: &str,
     name: &str,
     linking: Linking,
-) -> Result<(), Fault> {
+) -> Result<(), Fault>
+    ensures types { S.types_of opened.new.session.store ≡ S.types_of opened.old.session.store }
+    ensures folder { opened.new.folder ≡ opened.old.folder }
+    ensures told { opened.new.told ≡ opened.old.told }
+    ensures does { MatchResult result
+        (λ done. Links (S.types_of opened.old.session.store) opened.old.folder linking target.now name.now
+        (S.state_of opened.old.session.store) (S.state_of opened.new.session.store) opened.old.session.volume opened.new.session.volume)
+        (λ fault. IsUnlinked (S.types_of opened.old.session.store) opened.old.folder linking target.now name.now
+        (S.state_of opened.old.session.store) (S.state_of opened.new.session.store) opened.old.session.volume opened.new.session.volume) }
+{
     if target.is_empty() {
         return Err(Fault::Volume(Reason::Empty));
     }
     let goal = find_to(&opened.session, alloc, opened.folder, name, false)?;
-    let own = match linking {
-        Linking::Hard => own_name(alloc, target)?,
-        Linking::Symbolic => last_name(target.as_bytes()),
-    };
+    let own = own_of(alloc, target, linking)?;
     let path = goal_path(alloc, name, goal, own)?;
     let place = goal.place(own);
     if place.has_slash {
         return Err(at_bytes(alloc, &path, Reason::Missing));
     }
-    match linking {
-        Linking::Hard => link_hard(opened, alloc, target, (&path, place)),
-        Linking::Symbolic => link_symbolic(opened, alloc, target, (&path, place)),
-    }
+    link_to(opened, alloc, target, (&path, place), linking)
 }

@@ -1,0 +1,3 @@
+pub mod Paths
+pub mod Folders
+pub mod Naming
