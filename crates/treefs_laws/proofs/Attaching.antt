@@ -16,8 +16,8 @@ use Rattle.treefs_edits.specs.Written.{written}
 use Rattle.treefs_values.specs.Attached.{IsEmptyBlock, IsPointerSet}
 use Rattle.treefs_values.specs.Volumes.{IsVolume, IsWholeBlock}
 use Rattle.treefs_values.specs.Ways.{ArePointersApart, IsWay, block_numbered}
-use Rattle.treefs_values.proofs.ForCallers.{IsNew, IsOther, New, inode_pointer, node_pointer}
-use Rattle.treefs_laws.proofs.Fading.{byte_by, way_of_leaf}
+use Rattle.treefs_values.proofs.ForCallers.{IsNew, IsOther, New, inode_pointer, node_pointer, steps_way}
+use Rattle.treefs_laws.proofs.Fading.{byte_by}
 use Rattle.treefs_laws.proofs.TrimBlanks.{zeros_are}
 
 -- what laws of attached blocks say
@@ -167,7 +167,7 @@ module _ (laws : AreAttached) (node inode top : ℕ) (type : ℕ → ℕ) (c : �
           let is : block n ≡ leaf_block c top (n - 1) =
           ap (λ t. if t then top else inode_block c top n) (ne_eqb n 0 number) ∙ ap (λ t. if t then 0 else leaf_block c top (n - 1)) e in
           ap (λ t. if t then 0 else leaf_block attached top (n - 1)) e
-          ∙ (way_stays 0 0 (steps (n - 1)) (way_of_leaf (n - 1)) (λ z. n_there (is ∙ z)) ∙ sym (ap (λ t. if t then 0 else leaf_block c top (n - 1)) e))
+          ∙ (way_stays 0 0 (steps (n - 1)) (steps_way (n - 1)) (λ z. n_there (is ∙ z)) ∙ sym (ap (λ t. if t then 0 else leaf_block c top (n - 1)) e))
 
   -- Fields, and other new blocks
 
@@ -282,7 +282,7 @@ module _ (laws : AreAttached) (node inode top : ℕ) (type : ℕ → ℕ) (c : �
 
     -- a leaf that comes to be there has no bytes but 0
     new_byte : (i at : ℕ) → i < leaf_count → leaf_block c (block n) i ≡ 0 → leaf_byte attached (leaf_block attached (block n) i) at ≡ 0
-    new_byte i at few z = elim (grows 0 (steps i) (way_of_leaf i) z) [
+    new_byte i at few z = elim (grows 0 (steps i) (steps_way i) z) [
       | inl none ↦ ap (λ x. leaf_byte attached x at) none
       | inr is ↦
           let of_data = subst (λ x. leaf_block attached x i ≢ 0 → type (leaf_block attached x i) ≡ 2) attached_numbered
@@ -303,7 +303,7 @@ module _ (laws : AreAttached) (node inode top : ℕ) (type : ℕ → ℕ) (c : �
     leaf_same i at few = elim (cases_eq (leaf_block c (block n) i) 0) [
       | inl z ↦ new_byte i at few z ∙ sym (ap (λ x. leaf_byte c x at) z)
       | inr some ↦
-          ap (λ x. leaf_byte attached x at) (way_stays n 0 (steps i) (way_of_leaf i) some)
+          ap (λ x. leaf_byte attached x at) (way_stays n 0 (steps i) (steps_way i) some)
           ∙ ap (λ m. if leaf_block c (block n) i == 0 then 0 else slice_index m at) (set.changed (leaf_block c (block n) i) (leaf_other i few some))
     ]
 

@@ -19,9 +19,8 @@ use Rattle.treefs_model.specs.Reading.{block_at, byte_of, bytes_of, content_at, 
 use Rattle.treefs_model.specs.Trees.{has_name, has_pointer, is_inode_offset, is_node_offset, names_once}
 use Rattle.treefs_values.specs.Volumes.{IsDirectory, IsVolume, IsWholeBlock}
 use Rattle.treefs_values.specs.Ways.{IsWay, block_numbered}
-use Rattle.treefs_values.proofs.ForCallers.{IsAlike, bucket_same, file_read, inode_numbered}
+use Rattle.treefs_values.proofs.ForCallers.{IsAlike, bucket_same, file_read, inode_numbered, steps_way}
 use Rattle.treefs_laws.proofs.Attaching.{way_pointer}
-use Rattle.treefs_laws.proofs.Fading.{way_of_leaf}
 
 -- An inode of which all blocks have the bytes that they had
 
@@ -109,7 +108,7 @@ module _ (node inode top : ℕ) (type type' : ℕ → ℕ) (c c' : ℕ → List 
       by number true e = absurd (there (inode_numbered c top m number ∙ ap (λ t. if t then 0 else leaf_block c top (m - 1)) e))
       by number false e =
           let is : block m ≡ leaf_block c top (m - 1) = inode_numbered c top m number ∙ ap (λ t. if t then 0 else leaf_block c top (m - 1)) e in
-          λ same. way_from 0 0 (steps (m - 1)) (λ some. no_root) (way_of_leaf (m - 1)) (λ none. there (is ∙ none)) (sym is ∙ same)
+          λ same. way_from 0 0 (steps (m - 1)) (λ some. no_root) (steps_way (m - 1)) (λ none. there (is ∙ none)) (sym is ∙ same)
 
   way_other : (m k : ℕ) (os : List ℕ) → IsWay os k → block_at c (block m) os ≢ 0 → block_at c (block m) os ≢ z
   way_other m k os = way_from m k os (own_other m)
@@ -141,13 +140,13 @@ module _ (node inode top : ℕ) (type type' : ℕ → ℕ) (c c' : ℕ → List 
       by true e = ap (λ t. if t then 0 else leaf_block c' top (m - 1)) e ∙ sym (ap (λ t. if t then 0 else leaf_block c top (m - 1)) e)
       by false e =
           ap (λ t. if t then 0 else leaf_block c' top (m - 1)) e
-          ∙ (way_same 0 0 (steps (m - 1)) (way_of_leaf (m - 1)) ∙ sym (ap (λ t. if t then 0 else leaf_block c top (m - 1)) e))
+          ∙ (way_same 0 0 (steps (m - 1)) (steps_way (m - 1)) ∙ sym (ap (λ t. if t then 0 else leaf_block c top (m - 1)) e))
 
   pub alike_aside : (m : ℕ) → block m ≢ 0 → IsAlike c c' (block m)
   alike_aside m there = record {
     own = (kept (block m) (own_other m there)).1;
-    leaves = λ i. way_same m 0 (steps i) (way_of_leaf i);
-    bytes = λ i some. (kept (leaf_block c (block m) i) (way_other m 0 (steps i) (way_of_leaf i) some)).1;
+    leaves = λ i. way_same m 0 (steps i) (steps_way i);
+    bytes = λ i some. (kept (leaf_block c (block m) i) (way_other m 0 (steps i) (steps_way i) some)).1;
   }
 
   key_same : key_in c' top ≡ key_in c top
@@ -197,9 +196,9 @@ module _ (node inode top : ℕ) (type type' : ℕ → ℕ) (c c' : ℕ → List 
           ap type' same ∙ ((kept (block_at c (block m) os) (way_other m (suc k) os way there)).0 ∙ v.typed.nodes m k os way there);
       leaves = λ m i number few some.
           let same : leaf_block c' (block_numbered c' top m) i ≡ leaf_block c (block m) i = ap (λ b. leaf_block c' b i) (numbered_aside m) ∙ way_same m 0
-          (steps i) (way_of_leaf i) in
+          (steps i) (steps_way i) in
           let there : leaf_block c (block m) i ≢ 0 = λ e. some (same ∙ e) in
-          ap type' same ∙ ((kept (leaf_block c (block m) i) (way_other m 0 (steps i) (way_of_leaf i) there)).0 ∙ v.typed.leaves m i number few there);
+          ap type' same ∙ ((kept (leaf_block c (block m) i) (way_other m 0 (steps i) (steps_way i) there)).0 ∙ v.typed.leaves m i number few there);
     };
     apart = record {
       once = λ p q i j has has' some same.

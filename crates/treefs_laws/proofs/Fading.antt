@@ -1,19 +1,18 @@
 -- Leaves and bytes of a file whose pointers are dropped, or whose bytes become 0: each is as before, or 0.
-use Rattle.std.proofs.Common.{◌≡◌, ◌≢◌, ◌⊎◌, ℕ, zero, suc, ◌+◌, ◌/◌, ◌%◌, ◌<◌, ◌≤◌, Bool, true, false, List, [], ◌∷◌, refl, sym, ◌∙◌, ap, inl, inr, subst, arith, get_or, if◌then◌else◌}
-use Rattle.std.specs.Prelude.{All, IsTrue, length, nat_lt, slice_index, ◌==◌}
-use Rattle.std.proofs.lemmas.Bool.{cases_eq, ltb-true}
+use Rattle.std.proofs.Common.{◌≡◌, ◌≢◌, ◌⊎◌, ℕ, suc, ◌+◌, ◌/◌, ◌%◌, ◌<◌, Bool, true, false, List, [], ◌∷◌, refl, sym, ◌∙◌, ap, inl, inr, subst, arith, get_or, if◌then◌else◌}
+use Rattle.std.specs.Prelude.{IsTrue, nat_lt, slice_index, ◌==◌}
+use Rattle.std.proofs.lemmas.Bool.{cases_eq}
 use Rattle.std.proofs.lemmas.List.{get_or-drop}
-use Rattle.std.proofs.lemmas.List.Elements.{All-cons, All-nil}
 use Rattle.xn_model.specs.Root.{word_at}
 use Rattle.treefs_format.specs.Inodes.{content_of}
 use Rattle.treefs_format.specs.Leaves.{greatest_size}
-use Rattle.treefs_format.specs.Paths.{height_of, leaf_count, leaf_offset, place_in_tree, places, steps, tree_steps}
+use Rattle.treefs_format.specs.Paths.{leaf_count, steps}
 use Rattle.treefs_model.specs.Reading.{block_at, byte_of, leaf_block, leaf_byte, pointed}
 use Rattle.treefs_model.specs.Trees.{has_pointer}
 use Rattle.treefs_values.specs.Dropped.{AreDropped}
 use Rattle.treefs_values.specs.Volumes.{IsVolume}
 use Rattle.treefs_values.specs.Ways.{IsWay, block_numbered}
-use Rattle.treefs_values.proofs.ForCallers.{inode_pointer, node_pointer, tree_way}
+use Rattle.treefs_values.proofs.ForCallers.{inode_pointer, node_pointer, steps_way}
 
 -- as before, or 0
 abbrev pub Fades : ℕ → ℕ → Type 0
@@ -39,38 +38,6 @@ faded_then old middle new c first next = record {
   leaves = λ i. fades_then (leaf_block old c i) (leaf_block middle c i) (leaf_block new c i) (first.leaves i) (next.leaves i);
   bytes = λ p low. fades_then (byte_of old c p) (byte_of middle c p) (byte_of new c p) (first.bytes p low) (next.bytes p low);
 }
-
--- Paths to leaves are ways
-
-places_long : (h r : ℕ) → length (places h r) ≡ h
-places_long zero r = refl
-places_long (suc h) r = ap suc (places_long h (r / 127))
-
-places_within : (h r : ℕ) → All (λ j. j < 127) (places h r)
-places_within zero r = All-nil (λ j. j < 127)
-places_within (suc h) r = All-cons (λ j. j < 127) (r % 127) (places h (r / 127)) (omega arith) (places_within h (r / 127))
-
--- the four tests of a height
-heights : (a b c : Bool) → let h : ℕ = if a then 1 else if b then 2 else if c then 3 else 4 in (1 ≤ h) × (h ≤ 4)
-heights true b c = (omega arith, omega arith)
-heights false true c = (omega arith, omega arith)
-heights false false true = (omega arith, omega arith)
-heights false false false = (omega arith, omega arith)
-
-pub way_of_leaf : (i : ℕ) → IsWay (steps i) 0
-way_of_leaf i = by (nat_lt i 16) refl
-  where
-    by : (b : Bool) → nat_lt i 16 ≡ b → IsWay (steps i) 0
-    by true e =
-        subst (λ t. IsWay (if t then leaf_offset i ∷ [] else tree_steps (height_of i) (place_in_tree i)) 0) (sym e) (inl (i, ltb-true i 16 e, refl, refl))
-    by false e =
-        let h : ℕ = height_of i in
-        let tall : h ≡ (if nat_lt i 143 then 1 else if nat_lt i 16272 then 2 else if nat_lt i 2064655 then 3 else 4) =
-        ap (λ t. if t then 0 else if nat_lt i 143 then 1 else if nat_lt i 16272 then 2 else if nat_lt i 2064655 then 3 else 4) e in
-        let fits = subst (λ k. (1 ≤ k) × (k ≤ 4)) (sym tall) (heights (nat_lt i 143) (nat_lt i 16272) (nat_lt i 2064655)) in
-        let long : 0 + length (places h (place_in_tree i)) ≡ h = let e' = places_long h (place_in_tree i) in omega arith in
-        subst (λ t. IsWay (if t then leaf_offset i ∷ [] else tree_steps h (place_in_tree i)) 0) (sym e)
-        (tree_way h 0 (places h (place_in_tree i)) long fits.0 fits.1 (places_within h (place_in_tree i)))
 
 -- Pointers that are as before, or lead nowhere
 
@@ -98,7 +65,7 @@ module _ (node inode top : ℕ) (type : ℕ → ℕ) (old new : ℕ → List ℕ
           (further b o (λ z. v.some_types.0 (sym is_node ∙ z)) (node_pointer node inode (type b) o way.0 is_node way.1 way.2))
 
   pub leaf_fades : (i : ℕ) → Fades (leaf_block old c i) (leaf_block new c i)
-  leaf_fades i = way_fades 0 (steps i) (way_of_leaf i)
+  leaf_fades i = way_fades 0 (steps i) (steps_way i)
 
 -- Pointers of one block are dropped
 

@@ -27,9 +27,8 @@ use Rattle.treefs_values.specs.Bytes.{bucket_at, place_in_bucket}
 use Rattle.treefs_values.specs.KnownLayout.{IsLayout}
 use Rattle.treefs_values.specs.Volumes.{IsVolume, IsWholeBlock}
 use Rattle.treefs_values.specs.Ways.{IsWay, block_numbered}
-use Rattle.treefs_values.proofs.ForCallers.{IsNew, New, same_listed}
+use Rattle.treefs_values.proofs.ForCallers.{IsNew, New, same_listed, steps_way}
 use Rattle.treefs_laws.proofs.Attaching.{AreAttached, attached, attached_byte, attached_fields, attached_files, attached_numbered, attached_there, attached_volume, other}
-use Rattle.treefs_laws.proofs.Fading.{way_of_leaf}
 use Rattle.treefs_laws.proofs.OverFile.{IsOver, over_put, with_content}
 use Rattle.treefs_laws.proofs.BlockAside.{alike_byte}
 use Rattle.treefs_laws.proofs.UnledBytes.{filled, filled_above, filled_alike, filled_files, filled_itself, filled_numbered, filled_volume, filled_way}
@@ -78,7 +77,7 @@ module _ (laws : AreAttached) (node inode top : ℕ) (known : IsLayout) (n : ℕ
     zeros_whole = (length-replicate {A = ℕ} 512 0, All-replicate (λ b. b < 256) 512 0 (omega arith))
 
     way : IsWay (off ∷ above) 0
-    way = subst (λ os. IsWay os 0) steps_are (way_of_leaf i)
+    way = subst (λ os. IsWay os 0) steps_are (steps_way i)
 
     -- with zeros in the block
     abbrev m0 : ℕ → List ℕ

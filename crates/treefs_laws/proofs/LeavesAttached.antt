@@ -21,11 +21,9 @@ use Rattle.treefs_byte_plans.specs.Runs.{leaf_starts}
 use Rattle.treefs_values.specs.Attached.{IsPointerSet}
 use Rattle.treefs_values.specs.KnownLayout.{IsLayout}
 use Rattle.treefs_values.specs.Ways.{IsWay, block_numbered}
-use Rattle.treefs_values.proofs.ForCallers.{AreNew, AreOf, IsNew, IsOther, New, blocks_in, new_kept}
+use Rattle.treefs_values.proofs.ForCallers.{AreNew, AreOf, IsNew, IsOther, New, blocks_in, new_kept, onto, steps_way}
 use Rattle.treefs_laws.proofs.Attaching.{AreAttached, above_stays, attached, attached_byte, attached_fields, attached_files, attached_keeps, attached_numbered, attached_there, attached_volume, not_on_way, set, way_pointer}
-use Rattle.treefs_laws.proofs.Fading.{way_of_leaf}
 use Rattle.treefs_laws.proofs.LeafAttached.{leaf_over, over_same}
-use Rattle.treefs_laws.proofs.MissingPath.{onto}
 use Rattle.treefs_laws.proofs.OverFile.{IsOver}
 use Rattle.treefs_laws.proofs.PointersPatched.{attach_each}
 
@@ -227,7 +225,7 @@ module _ (laws : AreAttached) (T : Types) (fs node inode top : ℕ) (fs_few : fs
     none = ap (pointed m h) (sym off_is) ∙ f.none
 
     way : IsWay (off ∷ above) 0
-    way = subst (λ os. IsWay os 0) steps_are (way_of_leaf i)
+    way = subst (λ os. IsWay os 0) steps_are (steps_way i)
 
     no_node : (k : ℕ) → 0 ≡ suc k → z.ty ≡ node
     no_node k e = absurd (omega (arith, e))
@@ -255,7 +253,7 @@ module _ (laws : AreAttached) (T : Types) (fs node inode top : ℕ) (fs_few : fs
           few = subst (λ k. k < leaf_count) leaf_j g.few;
           steps_are = steps_j;
           none = one_zero bytes m o 0 off above way h h_is h_there z news.0 no_node as_data none 2 (off + 4 + 4 * j) 0
-              (subst (λ os. IsWay os 0) steps_j (way_of_leaf (i + 1 + j))) (λ e. absurd (omega (arith, e))) (ap (pointed m h) (sym place_j) ∙ g.none);
+              (subst (λ os. IsWay os 0) steps_j (steps_way (i + 1 + j))) (λ e. absurd (omega (arith, e))) (ap (pointed m h) (sym place_j) ∙ g.none);
         }
 
     spot1 : 0 < count → IsSpot count (at + length (bytes ++ more)) (i + 1) 0 (drop (512 - place) rest)

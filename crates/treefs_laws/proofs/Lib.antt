@@ -82,7 +82,6 @@ mod Attaching
 mod BlockAside
 mod UnledBytes
 mod LeafAttached
-mod MissingPath
 mod LeavesAttached
 mod NodesAttached
 mod RunPlanned

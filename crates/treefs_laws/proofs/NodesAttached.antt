@@ -18,11 +18,10 @@ use Rattle.treefs_edits.specs.Missing.{child_before, last_or_owner, node_acts, n
 use Rattle.treefs_edits.specs.Written.{all_written, written}
 use Rattle.treefs_values.specs.KnownLayout.{IsLayout}
 use Rattle.treefs_values.specs.Ways.{IsWay, block_numbered}
-use Rattle.treefs_values.proofs.ForCallers.{AreNew, AreOf, IsNew, IsOther, New, bare_node, blocks_in}
+use Rattle.treefs_values.proofs.ForCallers.{AreNew, AreOf, IsNew, IsOther, New, bare_node, blocks_in, onto, way_first}
 use Rattle.treefs_laws.proofs.Attaching.{AreAttached}
 use Rattle.treefs_laws.proofs.Fronts.{IsFront, same_first, same_rest}
 use Rattle.treefs_laws.proofs.LeavesAttached.{one_all, one_keeps, one_other, one_over, one_set, one_there, way_stands, way_up}
-use Rattle.treefs_laws.proofs.MissingPath.{onto, way_first}
 use Rattle.treefs_laws.proofs.OverFile.{IsOver}
 use Rattle.treefs_laws.proofs.Planned.{waits_write}
 

@@ -26,8 +26,8 @@ use Rattle.treefs_values.specs.Bytes.{bucket_at, byte_over, is_within, put_withi
 use Rattle.treefs_values.specs.KnownLayout.{IsLayout}
 use Rattle.treefs_values.specs.Volumes.{IsVolume}
 use Rattle.treefs_values.specs.Ways.{block_numbered}
-use Rattle.treefs_values.proofs.ForCallers.{file_read, files_put, inode_numbered, numbered_same, put_in, put_new, same_listed, volume_put}
-use Rattle.treefs_laws.proofs.BytesOver.{byte_put, few_buckets, inside, outside}
+use Rattle.treefs_values.proofs.ForCallers.{byte_put, file_read, files_put, inode_numbered, inside, numbered_same, outside, put_in, put_new, same_listed, volume_put}
+use Rattle.treefs_laws.proofs.BytesOver.{few_buckets}
 use Rattle.treefs_laws.proofs.Overwritten.{over_listed, put_listed}
 use Rattle.treefs_laws.proofs.Truncated.{sized, sized_files, sized_volume}
 

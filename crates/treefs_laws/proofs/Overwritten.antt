@@ -7,8 +7,7 @@ use Rattle.std.proofs.lemmas.List.{ext_get_or, get_or-append_right, get_or_appen
 use Rattle.std.proofs.lemmas.List.FromFn.{get_or-map-range_with_len, length-map-range_with_len}
 use Rattle.treefs_model.specs.Changes.{overwritten, resized}
 use Rattle.treefs_values.specs.Bytes.{byte_over, is_within, put_within}
-use Rattle.treefs_values.proofs.ForCallers.{listed_resized, same_listed}
-use Rattle.treefs_laws.proofs.BytesOver.{inside, outside}
+use Rattle.treefs_values.proofs.ForCallers.{inside, listed_resized, outside, same_listed}
 
 module _ (f : ℕ → ℕ) (size at : ℕ) (bytes : List ℕ) where
   abbrev listed : ℕ → List ℕ

@@ -41,17 +41,15 @@ use Rattle.treefs_values.specs.Kinds.{kinds}
 use Rattle.treefs_values.specs.KnownLayout.{IsLayout}
 use Rattle.treefs_values.specs.Volumes.{IsWholeBlock}
 use Rattle.treefs_values.specs.Ways.{IsWay, block_numbered}
-use Rattle.treefs_values.proofs.ForCallers.{AreBegun, AreNew, AreOf, IsAt, IsFineStart, IsKeptInode, IsOther, New, acts_read, begun_so, blocks_in, new_kept, new_parts, of_long, of_parts}
+use Rattle.treefs_values.proofs.ForCallers.{AreBegun, AreNew, AreOf, IsAt, IsFineStart, IsKeptInode, IsOther, IsPathTo, New, acts_read, begun_so, blocks_in, new_kept, new_parts, of_long, of_parts, onto, path_to, steps_way}
 use Rattle.treefs_laws.specs.Kept.{files_in}
 use Rattle.treefs_laws.specs.Open.{IsOpen}
 use Rattle.treefs_laws.proofs.Attaching.{AreAttached, way_type}
-use Rattle.treefs_laws.proofs.Fading.{way_of_leaf}
 use Rattle.treefs_laws.proofs.FileOver.{Over, dated_open, dated_seen, fields_are, file_there, found_there, kind_is, put_open, put_seen, touched_open, touched_seen, written_some, x_there}
 use Rattle.treefs_laws.proofs.ForgottenBlocks.{begins_stays, forgotten_stays, stays_open}
 use Rattle.treefs_laws.proofs.Fronts.{IsFront, attach_front, front_keeps, front_none, ran_front}
 use Rattle.treefs_laws.proofs.LeafAttached.{over_same}
 use Rattle.treefs_laws.proofs.LeavesAttached.{leaves_first, leaves_over, leaves_plain, way_stands}
-use Rattle.treefs_laws.proofs.MissingPath.{IsPathTo, onto, path_to}
 use Rattle.treefs_laws.proofs.NodesAttached.{AreNodes, IsNext, nodes_front, nodes_over}
 use Rattle.treefs_laws.proofs.OverFile.{over_none}
 use Rattle.treefs_laws.proofs.PiecesWritten.{Said, size_small, zeros_past}
@@ -253,7 +251,7 @@ module _ (laws : AreAttached) (T : Types) (known : IsLayout) (state : StoreState
       steps_at j lt = (beside_at j lt).steps_are ∙ ap (λ os. (slice_index os 0 + 4 * j) ∷ drop 1 os) p.steps_are
 
       way_at : (j : ℕ) → j < count → IsWay ((l0 + 4 * j) ∷ above) 0
-      way_at j lt = subst (λ os. IsWay os 0) (steps_at j lt) (way_of_leaf (leaf + j))
+      way_at j lt = subst (λ os. IsWay os 0) (steps_at j lt) (steps_way (leaf + j))
 
       abbrev More : ℕ → Type 0
       More o = (j : ℕ) × (j < count) × (o ≡ l0 + 4 * j)
@@ -262,14 +260,14 @@ module _ (laws : AreAttached) (T : Types) (known : IsLayout) (state : StoreState
       more_stands o (j, lt, is) = subst (λ k. (4 ≤ k) × (k + 4 ≤ 512) × (k % 4 ≡ 0)) (sym is) (way_stands (l0 + 4 * j) 0 above (way_at j lt))
 
       first_way : IsWay (l0 ∷ above) 0
-      first_way = subst (λ os. IsWay os 0) p.steps_are (way_of_leaf leaf)
+      first_way = subst (λ os. IsWay os 0) p.steps_are (steps_way leaf)
 
       free_first : (os : List ℕ) → os ≡ nodes → (o : ℕ) → IsNext More os o → pointed c0 owner o ≡ 0
       free_first [] is o (j, lt, o_is) =
           let above_is : q ≡ above = ap (onto q) is in
           ap (pointed c0 owner) o_is
           ∙ (ap (λ b. pointed c0 b (l0 + 4 * j)) (p.holder ∙ ap (block_at c0 x.block) above_is)
-          ∙ (ap (block_at c0 x.block) (sym (steps_at j lt)) ∙ (ways 0 (steps (leaf + j)) (way_of_leaf (leaf + j)) ∙ missing j lt)))
+          ∙ (ap (block_at c0 x.block) (sym (steps_at j lt)) ∙ (ways 0 (steps (leaf + j)) (steps_way (leaf + j)) ∙ missing j lt)))
       free_first (y ∷ os) is o next = ap (pointed c0 owner) next ∙ p.next_zero y os (sym is)
 
       with_nodes : AreNodes laws T fs node inode top is_open.few is_open.tree known n (found_there T known state volume is_open n x x_is).number x.block

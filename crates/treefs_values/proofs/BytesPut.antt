@@ -19,10 +19,10 @@ use Rattle.treefs_values.proofs.Putting.{IsPut, is_put}
 
 -- Tests
 
-inside : (first count p : ℕ) → first ≤ p → p < first + count → is_within first count p ≡ true
+pub inside : (first count p : ℕ) → first ≤ p → p < first + count → is_within first count p ≡ true
 inside first count p low high = (λ j. le-leb first p low j && lt-ltb p (first + count) high j)
 
-outside : (first count p : ℕ) → (p < first) ⊎ (first + count ≤ p) → is_within first count p ≡ false
+pub outside : (first count p : ℕ) → (p < first) ⊎ (first + count ≤ p) → is_within first count p ≡ false
 outside first count p h = elim h [
   | inl below ↦ ap (λ b. b && nat_lt p (first + count)) (lt-leb first p below)
   | inr past ↦ ap (λ b. nat_le first p && b) (le-ltb p (first + count) past) ∙ both (nat_le first p)

@@ -7,7 +7,9 @@ pub use Rattle.treefs_values.proofs.Elsewhere.{file_read, inode_numbered}
 pub use Rattle.treefs_values.proofs.Listed.{IsLiveEntry, has_of, live_leads, number_stands}
 pub use Rattle.treefs_values.proofs.Named.{candidates_few}
 pub use Rattle.treefs_values.proofs.Numbers.{among_numbers}
-pub use Rattle.treefs_values.proofs.Ways.{counted}
+pub use Rattle.treefs_values.proofs.Ways.{counted, steps_way}
+pub use Rattle.treefs_values.proofs.Paths.{onto, way_first}
+pub use Rattle.treefs_values.proofs.MissingPaths.{IsPathTo, path_to}
 pub use Rattle.treefs_values.proofs.FoundEntries.{IsEntry, IsFound, directory_is, entry_is, found_inode}
 pub use Rattle.treefs_values.proofs.LookUps.{inodes_found, numbers_found, numbers_named}
 -- edits of one block
@@ -32,6 +34,6 @@ pub use Rattle.treefs_values.proofs.Moving.{placed_keeps, rewriting_numbered, re
 pub use Rattle.treefs_values.proofs.Cleared.{cleared_whole, pointers_cleared}
 pub use Rattle.treefs_values.proofs.DroppedRead.{IsDrop, drop_is}
 pub use Rattle.treefs_values.proofs.Dropping.{dropped_fields, dropped_files, dropped_numbered, dropped_volume}
-pub use Rattle.treefs_values.proofs.BytesPut.{new as put_new, put_in}
+pub use Rattle.treefs_values.proofs.BytesPut.{byte_put, inside, new as put_new, outside, put_in, stands}
 pub use Rattle.treefs_values.proofs.BytesWritten.{files_put, listed_resized, same_listed, volume_put}
 pub use Rattle.treefs_values.proofs.Ways.{inode_pointer, node_pointer, numbered_same, tree_way}

@@ -34,6 +34,7 @@ pub mod Pending
 pub mod Walks
 pub mod Chains
 pub mod Paths
+pub mod MissingPaths
 pub mod Numbering
 pub mod Placing
 pub mod Fielding

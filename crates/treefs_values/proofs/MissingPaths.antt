@@ -1,100 +1,15 @@
--- The path to a leaf that is missing: the block that is there last, and the pointers behind it.
-use Rattle.std.proofs.Common.{◌≡◌, ◌≢◌, ◌⊎◌, ℕ, zero, suc, ◌+◌, ◌<◌, ◌≤◌, List, [], ◌∷◌, ◌++◌, length, get_or, take, drop, refl, sym, ◌∙◌, ap, inl, inr, arith, subst, if◌then◌else◌, append_assoc}
+-- What is planned of a path that lacks its end: the block that is there last, and the pointers behind it.
+use Rattle.std.proofs.Common.{◌≡◌, ◌≢◌, ◌⊎◌, ℕ, zero, suc, ◌+◌, ◌<◌, ◌≤◌, List, [], ◌∷◌, ◌++◌, length, get_or, take, drop, refl, sym, ◌∙◌, ap, inl, inr, arith, subst, if◌then◌else◌}
 use Rattle.std.specs.Prelude.{reverse}
-use Rattle.std.proofs.lemmas.Bool.{cases_eq, eq-eqb, lt-ltb, ne_eqb}
-use Rattle.std.proofs.lemmas.List.{drop_more, length-reverse, length-take-le, reverse-append, reverse-reverse, take-append-drop, take_more}
+use Rattle.std.proofs.lemmas.Bool.{lt-ltb}
+use Rattle.std.proofs.lemmas.List.{drop_more, length-reverse, length-take-le, reverse-append, take-append-drop}
 use Rattle.treefs_format.specs.Paths.{leaf_count, steps}
 use Rattle.treefs_model.specs.Reading.{block_at, leaf_block, pointed}
-use Rattle.treefs_lookup.specs.Walks.{further, reach, reached as reach_to, stepped}
-use Rattle.treefs_lookup.specs.declared.paths.Reach.{Reach}
+use Rattle.treefs_lookup.specs.Walks.{reach}
 use Rattle.treefs_edits.specs.Missing.{missing_path}
 use Rattle.treefs_values.specs.Ways.{IsWay}
-use Rattle.treefs_laws.proofs.Fading.{way_of_leaf}
-
--- How far a path leads
-
-module _ (content : ℕ → List ℕ) (b : ℕ) (some : b ≢ 0) where
-  record IsReached (os : List ℕ) (r : Reach) : Type 0 where
-    pub few : r.missing ≤ length os
-    pub block : r.block ≡ block_at content b (drop r.missing os)
-    pub there : r.block ≢ 0
-    pub next : (m : ℕ) → r.missing ≡ suc m → pointed content r.block (get_or os m 0) ≡ 0
-
-  reached_so : (os : List ℕ) → IsReached os (reach content b os)
-  reached_so [] = record { few = omega arith; block = refl; there = some; next = λ m e. absurd (omega (arith, e)) }
-  reached_so (o ∷ os) = by (reach content b os) (reached_so os)
-    where
-      by : (r : Reach) → IsReached os r → IsReached (o ∷ os) (further content o r)
-      by r is = elim (cases_eq r.missing 0) [
-        | inl z ↦
-            let at : r.block ≡ block_at content b os = is.block ∙ ap (λ k. block_at content b (drop k os)) z in
-            subst (IsReached (o ∷ os)) (sym (ap (λ t. if t then stepped r.block (pointed content r.block o) else reach_to r.block (r.missing + 1))
-            (eq-eqb r.missing 0 z)))
-            (elim (cases_eq (pointed content r.block o) 0) [
-              | inl none ↦
-                  subst (IsReached (o ∷ os)) (sym (ap (λ t. if t then reach_to r.block 1 else reach_to (pointed content r.block o) 0)
-                  (eq-eqb (pointed content r.block o) 0 none)))
-                  (record {
-                    few = omega arith;
-                    block = at;
-                    there = is.there;
-                    next = λ m e. let first : m ≡ 0 = omega (arith, e) in ap (λ k. pointed content r.block (get_or (o ∷ os) k 0)) first ∙ none;
-                  })
-              | inr led ↦
-                  subst (IsReached (o ∷ os)) (sym (ap (λ t. if t then reach_to r.block 1 else reach_to (pointed content r.block o) 0)
-                  (ne_eqb (pointed content r.block o) 0 led)))
-                  (record {
-                    few = omega arith;
-                    block = ap (λ c. pointed content c o) at;
-                    there = led;
-                    next = λ m e. absurd (omega (arith, e));
-                  })
-            ])
-        | inr ne ↦
-            let low = is.few in
-            let more : r.missing + 1 ≡ suc r.missing = omega arith in
-            subst (IsReached (o ∷ os)) (sym (ap (λ t. if t then stepped r.block (pointed content r.block o) else reach_to r.block (r.missing + 1))
-            (ne_eqb r.missing 0 ne)))
-            (record {
-              few = omega arith;
-              block = is.block ∙ sym (ap (λ k. block_at content b (drop k (o ∷ os))) more);
-              there = is.there;
-              next = λ m e. later r is ne m e;
-            })
-      ]
-        where
-          later : (r : Reach) → IsReached os r → r.missing ≢ 0 → (m : ℕ) → r.missing + 1 ≡ suc m → pointed content r.block (get_or (o ∷ os) m 0) ≡ 0
-          later r is ne zero e = absurd (ne (omega (arith, e)))
-          later r is ne (suc m) e = is.next m (omega (arith, e))
-
--- Paths onto a way
-
-abbrev pub onto : List ℕ → List ℕ → List ℕ
-onto q [] = q
-onto q (o ∷ os) = onto (o ∷ q) os
-
-onto_is : (q os : List ℕ) → onto q os ≡ reverse os ++ q
-onto_is q [] = refl
-onto_is q (o ∷ os) = onto_is (o ∷ q) os ∙ (sym (append_assoc (reverse os) (o ∷ []) q) ∙ ap (λ l. l ++ q) (sym (reverse-append (o ∷ []) os)))
-
-onto_reverse : (q os : List ℕ) → onto q (reverse os) ≡ os ++ q
-onto_reverse q os = onto_is q (reverse os) ∙ ap (λ l. l ++ q) (reverse-reverse os)
-
--- a way to the end of a path passes each of its pointers
-pub way_first : (o h : ℕ) (q os : List ℕ) → IsWay (onto (o ∷ q) os) h → (l : ℕ) × IsWay (o ∷ q) l × (l ≡ h + length os)
-way_first o h q [] way = (h, way, omega arith)
-way_first o h q (p ∷ os) way =
-    let later = way_first p h (o ∷ q) os way in
-    let e = later.2 in
-    (suc later.0, later.1.3, omega arith)
-
--- the first missing pointer, of so many at the end
-missing_first : (os : List ℕ) (m : ℕ) → m < length os → reverse (take (suc m) os) ≡ get_or os m 0 ∷ reverse (take m os)
-missing_first os m lt =
-    let more : suc m ≡ m + 1 = omega arith in
-    ap (λ k. reverse (take k os)) more ∙ (ap reverse (take_more os m 0 lt) ∙ reverse-append (take m os) (get_or os m 0 ∷ []))
-
--- The pointers that are missing
+use Rattle.treefs_values.proofs.Paths.{IsReached, missing_first, onto, onto_reverse, reached_so}
+use Rattle.treefs_values.proofs.Ways.{steps_way}
 
 drop_nil : (k : ℕ) → ◌≡◌ {A = List ℕ} (drop k []) []
 drop_nil zero = refl
@@ -127,10 +42,11 @@ module _ (old plan : ℕ → List ℕ) (b : ℕ) (b_some : b ≢ 0) (ways : (l :
     pub long : r_missing ≡ suc (length nodes)
     pub holder : r_block ≡ block_at old b q
     pub there : r_block ≢ 0
+    pub first_zero : nodes ≡ [] → pointed old r_block l0 ≡ 0
     pub next_zero : (x : ℕ) (rest : List ℕ) → nodes ≡ x ∷ rest → pointed old r_block x ≡ 0
 
   suffix_same : (k : ℕ) → block_at old b (drop k (steps leaf)) ≡ block_at plan b (drop k (steps leaf))
-  suffix_same k = elim (way_suffix (steps leaf) 0 k (way_of_leaf leaf)) [
+  suffix_same k = elim (way_suffix (steps leaf) 0 k (steps_way leaf)) [
     | inl none ↦ ap (block_at old b) none ∙ sym (ap (block_at plan b) none)
     | inr way ↦ ways way.0 (drop k (steps leaf)) way.1
   ]
@@ -175,6 +91,9 @@ module _ (old plan : ℕ → List ℕ) (b : ℕ) (b_some : b ≢ 0) (ways : (l :
       long = missing_is ∙ ap suc (sym nodes_long);
       holder = holder_is;
       there = is_reached.there;
+      first_zero = λ empty.
+          let none : m ≡ 0 = sym nodes_long ∙ ap length empty in
+          sym (ap (λ k. pointed old r_block (get_or (l0 ∷ above) k 0)) none) ∙ zero_first;
       next_zero = λ x rest is. next_by m m_few zero_first x rest is;
     }
       where
@@ -194,7 +113,7 @@ module _ (old plan : ℕ → List ℕ) (b : ℕ) (b_some : b ≢ 0) (ways : (l :
             first_same x y xs ys e = ap first_or e
 
   pub path_to : (l0 : ℕ) × (q : List ℕ) × (nodes : List ℕ) × IsPathTo l0 q nodes
-  path_to = by (steps leaf) refl r_missing refl (way_of_leaf leaf)
+  path_to = by (steps leaf) refl r_missing refl (steps_way leaf)
     where
       by : (os : List ℕ) → steps leaf ≡ os → (k : ℕ) → r_missing ≡ k → IsWay (steps leaf) 0 → (l0 : ℕ) × (q : List ℕ) × (nodes : List ℕ) × IsPathTo l0 q nodes
       by [] is k e way = absurd (subst (λ os. IsWay os 0) is way)
