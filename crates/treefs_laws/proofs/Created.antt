@@ -1,87 +1,42 @@
 -- A call makes an inode with its first name: what that makes of an open volume.
-use Rattle.std.proofs.Common.{◌≡◌, ◌≢◌, ℕ, ℤ, suc, ◌-◌, ◌<◌, ◌≤◌, ◌^◌, List, [], ◌∷◌, ◌++◌, length, take, drop, None, Some, Ok, refl, sym, ◌∙◌, ap, inl, inr, arith, subst, if◌then◌else◌}
-use Rattle.std.specs.Prelude.{All, Contains, option_map, slice_index}
-use Rattle.std.proofs.lemmas.Bool.{cases_eq, eq-eqb, ne_eqb}
-use Rattle.std.proofs.lemmas.List.{drop_at, length-map, map-append, take_at}
-use Rattle.std.proofs.lemmas.List.Elements.{All-append, All-cons, All-weaker}
+use Rattle.std.proofs.Common.{◌≡◌, ℕ, ◌-◌, ◌<◌, ◌≤◌, ◌^◌, List, [], ◌∷◌, length, drop, Ok, refl, sym, ◌∙◌, ap, inl, inr, arith, subst}
+use Rattle.std.specs.Prelude.{All, slice_index}
+use Rattle.std.proofs.lemmas.List.Elements.{All-cons}
 use Rattle.xn_model.specs.Types.{Types}
 use Rattle.xn_model.specs.Lives.{StoreState}
-use Rattle.treefs_format.specs.Candidates.{candidates, name_hash}
 use Rattle.treefs_format.specs.Fields.{AreInRange}
 use Rattle.treefs_format.specs.Inodes.{inode_bytes}
-use Rattle.treefs_format.specs.Paths.{leaf_count}
 use Rattle.treefs_format.specs.declared.fields.Fields.{Fields}
 use Rattle.treefs_format.specs.declared.kind.Kind.{Kind}
 use Rattle.treefs_format.specs.declared.kind.Kind.TheVariants as kind
 use Rattle.treefs_model.specs.Acts.{Ran}
-use Rattle.treefs_model.specs.Changes.{made, touched as touched_inode}
-use Rattle.treefs_model.specs.Files.{Files, Inode, changed_at, renamed_in, with_inode, with_name}
-use Rattle.treefs_model.specs.Reading.{files_of, inode_with, key_in}
+use Rattle.treefs_model.specs.Changes.{made}
+use Rattle.treefs_model.specs.Files.{Inode}
+use Rattle.treefs_model.specs.Reading.{inode_with, key_in}
 use Rattle.treefs_lookup.specs.Readable.{readable}
-use Rattle.treefs_edits.specs.Memories.{with_touched}
-use Rattle.treefs_edits.specs.Missing.{node_starts}
 use Rattle.treefs_edits.specs.Plans.{Does, DoesPlanned}
-use Rattle.treefs_edits.specs.declared.memory.Touched.{Touched}
 use Rattle.treefs_edits.specs.declared.start.Start.{Start}
-use Rattle.treefs_edits.specs.declared.times.Times.{Times}
-use Rattle.treefs_name_plans.specs.Additions.{addition_starts}
-use Rattle.treefs_name_plans.specs.CommitPlans.{commit_acts, commit_acts_of, table_nodes}
+use Rattle.treefs_name_plans.specs.CommitPlans.{commit_acts}
 use Rattle.treefs_name_plans.specs.NewPlans.{IsNewPlanned, new_plan}
 use Rattle.treefs_name_plans.specs.declared.commit_plan.CommitPlan.{CommitPlan}
 use Rattle.treefs_name_plans.specs.declared.new_plan.NewPlan.{NewPlan}
 use Rattle.treefs.specs.Committing.{committed_memory}
 use Rattle.treefs.specs.Creating.{NewDoes, new_fields}
-use Rattle.treefs.specs.Remembered.{now_times}
 use Rattle.treefs.specs.Unlinking.{as_plan}
 use Rattle.treefs.specs.declared.attributes.Attributes.{Attributes}
 use Rattle.treefs.specs.declared.volume.Volume.{Volume}
 use Rattle.treefs_values.specs.Attached.{new_content}
 use Rattle.treefs_values.specs.Kinds.{kinds}
 use Rattle.treefs_values.specs.KnownLayout.{IsLayout}
-use Rattle.treefs_values.specs.Values.{led_to}
-use Rattle.treefs_values.proofs.ForCallers.{AreBegun, AreNew, AreOf, IsAt, IsDirectoryAt, IsFineStart, New, begun_so, blocks_in, candidates_few, directory_is, directory_stays, of_long, of_parts}
-use Rattle.treefs_laws.specs.Kept.{IsKept, files_in}
+use Rattle.treefs_values.proofs.ForCallers.{AreBegun, AreNew, AreOf, IsAt, IsFineStart, New, begun_so, blocks_in, directory_is}
+use Rattle.treefs_laws.specs.Kept.{IsKept}
 use Rattle.treefs_laws.specs.Making.{FitsAttributes, MakesInode, new_inode}
 use Rattle.treefs_laws.specs.Open.{IsOpen}
-use Rattle.treefs_laws.specs.Seen.{AreTimes, IsSession, seen_files, seen_inode}
 use Rattle.treefs_laws.proofs.Attributed.{AreModes}
-use Rattle.treefs_laws.proofs.Begun.{fine_addition, fine_inode, fine_nodes}
-use Rattle.treefs_laws.proofs.InDirectory.{directory_here, is_new_name, name_long, number_few, seen_directory}
-use Rattle.treefs_laws.proofs.Named.{first_named}
-use Rattle.treefs_laws.proofs.NewPlanned.{IsAddition, IsNewPlan, addition_is, commit_of, new_planned}
-use Rattle.treefs_laws.proofs.Seeing.{seen_named, seen_touched}
-use Rattle.treefs_laws.proofs.There.{changed_there, with_there}
-use Rattle.treefs_laws.proofs.Touching.{all_touched, not_there, once_touched}
-
--- Files with one inode more
-
-module _ (touched : List Touched) (files : Files) (n : ℕ) (inode : Inode) (lacks : All (λ touch. touch.number ≢ n) touched) where
-  pub seen_with : seen_files touched (with_inode files n (Some inode)) ≡ with_inode (seen_files touched files) n (Some inode)
-  unfolding seen_files
-  seen_with = λ j m. at m j
-    where
-      same : seen_inode touched n inode ≡ inode
-      same = ap (λ (t : Times). record inode { mtime = t.mtime; ctime = t.ctime }) (not_there n (record { mtime = inode.mtime; ctime = inode.ctime }) (record { mtime = inode.mtime; ctime = inode.ctime }) touched lacks)
-
-      at : (m : ℕ) → seen_files touched (with_inode files n (Some inode)) m ≡ with_inode (seen_files touched files) n (Some inode) m
-      at m = elim (cases_eq m n) [
-        | inl is ↦
-            ap (λ t. option_map (seen_inode touched m) (if t then Some inode else files m)) (eq-eqb m n is)
-            ∙ (ap (λ k. Some (seen_inode touched k inode)) is ∙ (ap Some same
-            ∙ sym (ap (λ t. if t then Some inode else option_map (seen_inode touched m) (files m)) (eq-eqb m n is))))
-        | inr ne ↦
-            ap (λ t. option_map (seen_inode touched m) (if t then Some inode else files m)) (ne_eqb m n ne)
-            ∙ sym (ap (λ t. if t then Some inode else option_map (seen_inode touched m) (files m)) (ne_eqb m n ne))
-      ]
-
-pub made_there : (files : Files) (time : ℤ) (d : ℕ) (name : List ℕ) (n : ℕ) (inode : Inode) (m : ℕ) → files m ≢ None → made files time d name n inode m ≢ None
-made_there files time d name n inode m there =
-    changed_there (with_name (with_inode files n (Some inode)) d name (Some n)) d (touched_inode time) m
-    (changed_there (with_inode files n (Some inode)) d (renamed_in name (Some n)) m (with_there files n inode m there))
-
-pub nodes_long : (node last : ℕ) (os : List ℕ) → length (node_starts node last os) ≡ length os
-nodes_long node last [] = refl
-nodes_long node last (o ∷ os) = ap suc (nodes_long node last os)
+use Rattle.treefs_laws.proofs.Begun.{fine_inode}
+use Rattle.treefs_laws.proofs.FirstName.{IsDone, fine, first_begun, said, starts}
+use Rattle.treefs_laws.proofs.InDirectory.{number_few}
+use Rattle.treefs_laws.proofs.NewPlanned.{IsNewPlan, commit_of, new_planned}
 
 -- a directory that is there has a number of 32 bits
 pub directory_few : (T : Types) (state state' : StoreState) (volume middle : Volume) (d : ℕ) (name bytes : List ℕ) (plan : NewPlan) →
@@ -143,151 +98,42 @@ module _ (T : Types) (state state' : StoreState) (volume : Volume) (d : ℕ) (na
   here = record { store = kept.store; root = is_open.root; volume = kept.bytes }
 
   module _ (plan : NewPlan) (p : IsNewPlan state volume.tree volume.memory d name (inode_bytes fields head) plan) where
-    abbrev c : ℕ
-    c = p.directory
-
-    abbrev n : ℕ
-    n = p.n
-
-    dir : IsDirectoryAt content top d c key
-    dir = directory_here T state volume d name kept known c p.free
-
-    c_some : c ≢ 0
-    c_some = dir.there
-
-    few_of : (j : ℕ) → Contains (candidates (name_hash key name)) j → j ≤ leaf_count
-    few_of j has = candidates_few known.high (name_hash key name) j has
-
-    placed : IsAddition content key node c name p.addition
-    placed = addition_is state volume.tree d c name c_some few_of p.free p.addition p.addition_found
-
-    n_some : n ≢ 0
-    n_some z = let low = p.next.some in absurd (omega (arith, z))
-
-    n_short : n < 2 ^ 32
-    n_short = let high = p.next.few in omega arith
-
-    n_within : n - 1 < leaf_count
-    n_within = let low = p.next.some in let high = p.next.few in omega arith
-
-    -- The store
-
     abbrev commit : CommitPlan
-    commit = commit_of state volume.tree volume.memory d name (inode_bytes fields head) n c p.addition
+    commit = commit_of state volume.tree volume.memory d name (inode_bytes fields head) p.n p.directory p.addition
 
-    abbrev starts : List Start
-    starts = record { ty = inode; bytes = inode_bytes fields head } ∷ (node_starts node inode (table_nodes commit) ++ addition_starts p.addition)
+    abbrev behind : List Start
+    behind = starts T state state' volume d name is_open known wide value (inode_bytes fields head) p.n p.directory p.free p.next p.addition p.addition_found
+
+    abbrev all : List Start
+    all = record { ty = inode; bytes = inode_bytes fields head } ∷ behind
 
     abbrev Fine : Start → Type 0
     Fine = IsFineStart T fs node inode top is_open.few is_open.tree
 
-    fine : All Fine starts
-    fine = All-cons Fine (record { ty = inode; bytes = inode_bytes fields head }) (node_starts node inode (table_nodes commit) ++ addition_starts p.addition)
+    all_fine : All Fine all
+    all_fine = All-cons Fine (record { ty = inode; bytes = inode_bytes fields head }) behind
         (fine_inode T fs node inode top is_open.few is_open.tree known kept.bytes.types.0 kept.bytes.some_types is_open.short fields head in_range head_wide short)
-        (All-append Fine (node_starts node inode (table_nodes commit)) (addition_starts p.addition)
-        (fine_nodes T fs node inode top is_open.few is_open.tree known kept.bytes.types.0 kept.bytes.some_types is_open.short (table_nodes commit))
-        (fine_addition T fs node inode top is_open.few is_open.tree known kept.bytes.types.0 kept.bytes.some_types is_open.short content key c name p.addition placed))
+        (fine T state state' volume d name is_open known wide value (inode_bytes fields head) p.n p.directory p.free p.next p.addition p.addition_found)
 
-    abbrev IsDone : StoreState → Type 0
-    IsDone s = IsAt T fs node inode top s × (files_of content top n ≡ None)
-        × (files_of (readable s fs) top ≡ with_name (with_inode (files_of content top) n (Some value)) d name (led_to n))
+    abbrev Done : Type 0
+    Done = IsDone T state state' volume d name is_open known wide value (inode_bytes fields head) p.n p.directory p.free p.next p.addition p.addition_found state'
 
-    module _ (begun : List ℕ) (b0 : StoreState) (b : AreBegun T fs node inode top is_open.few is_open.tree starts [] begun state b0)
+    module _ (begun : List ℕ) (b0 : StoreState) (b : AreBegun T fs node inode top is_open.few is_open.tree all [] begun state b0)
         (ran : Ran T fs (commit_acts commit name (slice_index begun 0) (drop 1 begun)) b0 state' (Ok tt)) where
-      from_begun : (made' : List New) → begun ≡ blocks_in made' → AreOf T fs node inode top is_open.few is_open.tree starts made' →
-          AreNew node inode (kinds b0 fs) (readable b0 fs) top made' → IsDone state'
+      from_begun : (made' : List New) → begun ≡ blocks_in made' → AreOf T fs node inode top is_open.few is_open.tree all made' →
+          AreNew node inode (kinds b0 fs) (readable b0 fs) top made' → Done
       from_begun [] blocks of news = absurd of
       from_begun (y ∷ ys) blocks of news =
-          let parts = of_parts T fs node inode top is_open.few is_open.tree (node_starts node inode (table_nodes commit)) (addition_starts p.addition) ys of.2 in
-          let xs : List New = parts.0 in
-          let zs : List New = parts.1 in
-          let long : length (blocks_in xs) ≡ length (table_nodes commit) =
-          length-map xs (λ (x : New). x.block) ∙ (of_long T fs node inode top is_open.few is_open.tree (node_starts node inode (table_nodes commit)) xs parts.3 ∙ nodes_long node inode (table_nodes commit)) in
-          let split : blocks_in ys ≡ blocks_in xs ++ blocks_in zs = ap blocks_in parts.2 ∙ map-append (λ (x : New). x.block) xs zs in
-          let front : take (length (table_nodes commit)) (blocks_in ys) ≡ blocks_in xs =
-          ap (take (length (table_nodes commit))) split ∙ take_at (blocks_in xs) (blocks_in zs) (length (table_nodes commit)) long in
-          let back : drop (length (table_nodes commit)) (blocks_in ys) ≡ blocks_in zs =
-          ap (drop (length (table_nodes commit))) split ∙ drop_at (blocks_in xs) (blocks_in zs) (length (table_nodes commit)) long in
-          let ran' = subst (λ bs. Ran T fs (commit_acts commit name (slice_index bs 0) (drop 1 bs)) b0 state' (Ok tt)) blocks ran in
-          let ran'' = subst (λ acts. Ran T fs acts b0 state' (Ok tt)) (λ j. commit_acts_of commit name y.block (front j) (back j)) ran' in
-          let stays = directory_stays content (readable b0 fs) top d c key b.inodes dir in
-          let done = first_named T fs node inode top is_open.few is_open.tree known state d c key name p.free.named wide (name_long name p.free.named) few_of n n_short n_some n_within p.next.can.free
-          fields head in_range short refl k (modes.kind k attributes.permissions fit.permissions) empty p.addition placed b0 state' y xs zs b.at stays.0
-          (record { alike = stays.1; ways = stays.2 }) b.ways of.0 of.1 parts.3 parts.4
-          (subst (λ l. AreNew node inode (kinds b0 fs) (readable b0 fs) top (y ∷ l)) parts.2 news) ran'' in (
-            done.0,
-            ap (λ f. f n) (sym b.files) ∙ done.1,
-            done.2 ∙ (ap (λ f. with_name (with_inode f n (Some (inode_with fields (new_content k fields.parent head)))) d name (led_to n)) b.files
-                ∙ ap (λ x. with_name (with_inode (files_of content top) n (Some x)) d name (led_to n)) value_is),
-          )
+          first_begun T state state' volume d name is_open known wide value (inode_bytes fields head) p.n p.directory p.free p.next p.addition p.addition_found fields head
+          in_range short refl k (modes.kind k attributes.permissions fit.permissions) empty value_is all begun b0 b y ys of.0 of.1 of.2 news
+          (subst (λ bs. Ran T fs (commit_acts commit name (slice_index bs 0) (drop 1 bs)) b0 state' (Ok tt)) blocks ran)
 
-      pub stored : IsDone state'
-      stored = from_begun b.made b.blocks_are b.of b.news
-
-    carried : Does T fs (new_plan name (record { inode = inode_bytes fields head; commit = commit })) state state' (Ok tt) → IsDone state'
+    carried : Does T fs (new_plan name (record { inode = inode_bytes fields head; commit = commit })) state state' (Ok tt) → Done
     carried does = elim does [
       | inl none ↦ absurd none
-      | inr r ↦ stored r.0 r.1 (begun_so T fs node inode top is_open.few is_open.tree starts [] r.0 state r.1 fine here r.2) r.3
+      | inr r ↦ (λ (b : AreBegun T fs node inode top is_open.few is_open.tree all [] r.0 state r.1). from_begun r.0 r.1 b r.3 b.made b.blocks_are b.of b.news)
+          (begun_so T fs node inode top is_open.few is_open.tree all [] r.0 state r.1 all_fine here r.2)
     ]
-
-    -- The volume
-
-    abbrev later : Volume
-    later = record volume { memory = committed_memory volume.memory d commit }
-
-    abbrev Said : Volume → Type 0
-    Said v = IsOpen T state' v × MakesInode state state' volume v d name n value
-
-    module _ (done : IsDone state') where
-      abbrev touched : List Touched
-      touched = volume.memory.touched
-
-      abbrev now : List Touched
-      now = with_touched touched d (now_times volume.memory)
-
-      lead : led_to n ≡ Some n
-      lead = ap (λ t. if t then None else Some n) (ne_eqb n 0 n_some)
-
-      not_seen : files_in state volume n ≡ None
-      unfolding seen_files
-      not_seen = ap (option_map (seen_inode touched n)) done.1
-
-      lacks : All (λ touch. touch.number ≢ n) touched
-      lacks = All-weaker (λ (touch : Touched). files_in state volume touch.number ≢ None) (λ touch. touch.number ≢ n)
-          (λ touch some same. some (ap (files_in state volume) same ∙ not_seen)) touched is_open.touched
-
-      files_so : files_in state' later ≡ made (files_in state volume) volume.memory.clock d name n value
-      files_so =
-          ap (seen_files now) (done.2 ∙ ap (with_name (with_inode (files_of content top) n (Some value)) d name) lead)
-          ∙ (seen_touched touched (with_name (with_inode (files_of content top) n (Some value)) d name (Some n)) d (now_times volume.memory)
-          ∙ ap (λ f. changed_at f d (touched_inode volume.memory.clock))
-          (seen_named touched (with_inode (files_of content top) n (Some value)) d name (Some n)
-          ∙ ap (λ f. with_name f d name (Some n)) (seen_with touched (files_of content top) n value lacks)))
-
-      session : IsSession later.memory
-      session = record {
-        once = once_touched d (now_times volume.memory) touched kept.session.once;
-        clock = kept.session.clock;
-        times = all_touched (λ touch. AreTimes touch.times) d (now_times volume.memory) (kept.session.clock, kept.session.clock) touched kept.session.times;
-      }
-
-      still_there : (m : ℕ) → files_in state volume m ≢ None → files_in state' later m ≢ None
-      still_there m some none = made_there (files_in state volume) volume.memory.clock d name n value m some (ap (λ f. f m) (sym files_so) ∙ none)
-
-      pub said : Said later
-      said = (
-        record {
-          kept = record { store = done.0.store; bytes = done.0.volume; session = session };
-          few = is_open.few;
-          tree = is_open.tree;
-          short = is_open.short;
-          root = done.0.root;
-          touched = all_touched (λ touch. files_in state' later touch.number ≢ None) d (now_times volume.memory) (still_there d (λ none. absurd (cc (sym (seen_directory T state volume d name kept known c p.free).1 ∙ none)))) touched
-              (All-weaker (λ (touch : Touched). files_in state volume touch.number ≢ None) (λ touch. files_in state' later touch.number ≢ None)
-              (λ touch some. still_there touch.number some) touched is_open.touched);
-        },
-        (is_new_name T state volume d name kept known c p.free, not_seen, files_so),
-      )
 
   -- The call
 
@@ -296,7 +142,7 @@ module _ (T : Types) (state state' : StoreState) (volume : Volume) (d : ℕ) (na
   new_said volume' plan (planned, is_planned, does, ok, is) =
       let p = new_planned state volume.tree volume.memory d name (inode_bytes fields head) plan (subst (IsNewPlanned state volume.tree volume.memory d name (inode_bytes fields head)) ok is_planned) in
       let does' = subst (λ x. DoesPlanned T fs (as_plan (new_plan name) x) state state' (Ok tt)) (ok ∙ ap Ok p.plan_is) does in
-      let whole = said plan p (carried plan p does') in
+      let whole = said T state state' volume d name is_open known wide value (inode_bytes fields head) p.n p.directory p.free p.next p.addition p.addition_found (carried plan p does') in
       let plan_same : record { inode = inode_bytes fields head; commit = commit plan p } ≡ plan = sym p.plan_is in
       subst (λ v. IsOpen T state' v × MakesInode state state' volume v d name plan.commit.number value) (sym is)
       (subst (λ (q : NewPlan). IsOpen T state' (record volume { memory = committed_memory volume.memory d q.commit })

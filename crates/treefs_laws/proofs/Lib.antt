@@ -15,6 +15,7 @@ mod Begun
 mod InDirectory
 mod Named
 mod There
+mod FirstName
 mod Created
 mod Made
 mod Linked

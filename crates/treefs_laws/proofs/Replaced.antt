@@ -50,7 +50,7 @@ use Rattle.treefs_laws.specs.Open.{IsOpen}
 use Rattle.treefs_laws.specs.Seen.{AreTimes, AreTouchedOnce, IsSession, seen_files, seen_inode, times_in}
 use Rattle.treefs_laws.proofs.Begun.{fine_nodes}
 use Rattle.treefs_laws.proofs.Committed.{IsPlanned, empty, first_said, here, is_new, planned_so, y}
-use Rattle.treefs_laws.proofs.Created.{made_there, nodes_long, seen_with}
+use Rattle.treefs_laws.proofs.FirstName.{made_there, nodes_long, seen_with}
 use Rattle.treefs_laws.proofs.Ended.{apart, fewer, times_by}
 use Rattle.treefs_laws.proofs.NamesEnd.{fit, inode_seen, links_are_changes, newest, number_is, short, touched_session, value, value_there}
 use Rattle.treefs_laws.proofs.NewPlanned.{IsSecondPlan, replacing_of, second_planned}
