@@ -72,8 +72,8 @@ fn volume_fault(system: &Option<SystemFault>, fault: TreeFault) -> Fault {
 }
 
 impl<S: FlushStore + Drop> Opened<S> {
-    /// Opens the volume of trees of a file system of a store, told with the types of its blocks and the time, as `open` of a session does it. Where the disk is one in a file its faults are told by the
-    /// system's reason.
+    /// Opens the volume of trees of a file system of a store, told with the types of its blocks and the time, as `open` of a session does it. Where the disk
+    /// is one in a file its faults are told by the system's reason.
     pub fn open(
         alloc: Global,
         store: S,
