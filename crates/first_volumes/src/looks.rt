@@ -4,20 +4,14 @@ ghost use Rattle.std.specs.Prelude.{◌≡◌, IfOk, ⊤};
 
 use crate::reasons::seen;
 use crate::volume::FirstVolume;
+use ffs_format::entries::NAME_LEN;
+use ffs_format::inodes::DIRECT_POINTERS;
 use flush_store::FlushStore;
 use std::alloc::Global;
+use store_types::BLOCK_LEN;
 use tree_lines::{Named, Node, Reason, Stretch, TOP, Usage, View, block_count};
 use treefs_format::Kind;
 use xnfs_session::{MOST_BYTES, MOST_INODES, Session};
-
-/// How many bytes a name has there at most.
-const NAME_LEN: u32 = 28;
-
-/// How many blocks of bytes an inode points to itself.
-const OWN_BLOCKS: u64 = 12;
-
-/// How many bytes a block has.
-const BLOCK_LEN: u64 = 512;
 
 /// The inode of a number; none has a greater one.
 fn inode_of(number: u32) -> Result<u16, Reason> {
@@ -180,8 +174,10 @@ impl<S: FlushStore + Drop> View for FirstVolume<S> {
     }
 
     fn blocks_held(&self, number: u32) -> Result<u64, Reason> {
-        let blocks = node_of(&self.session, number)?.size.div_ceil(BLOCK_LEN);
-        Ok(if blocks > OWN_BLOCKS {
+        let blocks = node_of(&self.session, number)?
+            .size
+            .div_ceil(BLOCK_LEN as u64);
+        Ok(if blocks > DIRECT_POINTERS as u64 {
             blocks.saturating_add(1)
         } else {
             blocks
@@ -212,7 +208,7 @@ impl<S: FlushStore + Drop> View for FirstVolume<S> {
             free_blocks: usage.free_blocks,
             blocks: block_count(self.session.store(), self.session.fs()),
             numbers: Some((u32::from(usage.used_inodes), u32::from(MOST_INODES))),
-            longest_name: NAME_LEN,
+            longest_name: NAME_LEN as u32,
             largest_file: u64::from(MOST_BYTES),
         }
     }

@@ -4,10 +4,8 @@ use crate::sizes::told_size;
 use std::alloc::{AllocError, Global};
 use std::collections::BTreeSet;
 use std::io::Write;
+use store_types::BLOCK_LEN;
 use tree_lines::{Fault, Node, Told, View, Visit, Walk, at_bytes, find, shown};
-
-/// How many bytes a block has.
-const BLOCK: u64 = 512;
 
 /// How sums are told.
 #[derive(Clone, Copy, Debug)]
@@ -76,7 +74,7 @@ fn print_blocks(
     out: &mut impl Write,
 ) -> Result<(), Fault> {
     let held = if is_human {
-        blocks.saturating_mul(BLOCK)
+        blocks.saturating_mul(BLOCK_LEN as u64)
     } else {
         blocks
     };

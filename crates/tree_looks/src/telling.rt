@@ -4,6 +4,7 @@ use crate::json::Members;
 use crate::sizes::told_size;
 use std::alloc::Global;
 use std::io::Write;
+use store_types::BLOCK_LEN;
 use tree_lines::{Fault, Reason, Told, Usage, View, Walk, at, find, kind_mark, shown};
 
 /// `tree`: all that stands below a folder, each name two spaces further in than its folder's.
@@ -36,7 +37,7 @@ pub fn tree<V: View>(
 fn print_usage(usage: &Usage, out: &mut impl Write) -> Result<(), Fault> {
     writeln!(
         out,
-        "blocks free: {} of {}, of 512 bytes",
+        "blocks free: {} of {}, of {BLOCK_LEN} bytes",
         usage.free_blocks, usage.blocks
     )?;
     if let Some((used, most)) = usage.numbers {
@@ -50,14 +51,15 @@ fn print_usage(usage: &Usage, out: &mut impl Write) -> Result<(), Fault> {
     Ok(())
 }
 
+/// How many bytes so many blocks are.
+fn bytes_of(blocks: u32) -> u64 {
+    u64::from(blocks).saturating_mul(BLOCK_LEN as u64)
+}
+
 /// Prints what is free and the limits as people read sizes.
 fn print_human_usage(alloc: Global, usage: &Usage, out: &mut impl Write) -> Result<(), Fault> {
-    let free = told_size(
-        alloc,
-        u64::from(usage.free_blocks).saturating_mul(512),
-        true,
-    )?;
-    let size = told_size(alloc, u64::from(usage.blocks).saturating_mul(512), true)?;
+    let free = told_size(alloc, bytes_of(usage.free_blocks), true)?;
+    let size = told_size(alloc, bytes_of(usage.blocks), true)?;
     writeln!(out, "free: {free} of {size}")?;
     if let Some((used, most)) = usage.numbers {
         writeln!(out, "inodes used: {used} of {most}")?;
@@ -102,7 +104,7 @@ fn print_json_usage(alloc: Global, usage: &Usage, out: &mut impl Write) -> Resul
     let mut object = Members::none(alloc);
     object.number("free_blocks", u64::from(usage.free_blocks))?;
     object.number("blocks", u64::from(usage.blocks))?;
-    object.number("block_size", 512)?;
+    object.number("block_size", BLOCK_LEN as u64)?;
     if let Some((used, most)) = usage.numbers {
         object.number("used_inodes", u64::from(used))?;
         object.number("inodes", u64::from(most))?;

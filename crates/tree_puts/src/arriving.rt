@@ -12,14 +12,9 @@ use tree_lines::{Fault, Opened, Place, Reason, at_bytes, system, there};
 use treefs::Attributes;
 use treefs_byte_plans::{Attributes as Settings, Owner};
 use treefs_format::Kind;
-use treefs_format::sizes::GREATEST_SIZE;
+use treefs_format::inodes::CONTENT_LEN;
+use treefs_format::sizes::{GREATEST_SIZE, LEAF_LEN};
 use treefs_session::{Begin, Commit, Put, SetAttributes, SetMtime, Target};
-
-/// How many bytes of a file stand beside its attributes.
-pub const HEAD: usize = 384;
-
-/// How many bytes of a file stand in a block of their own.
-const LEAF: u64 = 512;
 
 /// What a line that brings files in keeps.
 pub struct Arriving<'a, H: Host, S: FlushStore + Drop> {
@@ -164,7 +159,7 @@ impl<'a, H: Host, S: FlushStore + Drop> Arriving<'a, H, S> {
         }
         let usage = tree_lines::View::usage(&self.volume.session);
         let size = goods.attributes.size.min(goods.attributes.held);
-        if size / LEAF > u64::from(usage.blocks) {
+        if size / LEAF_LEN > u64::from(usage.blocks) {
             let free = usage.free_blocks;
             return Err(at_bytes(self.alloc, goods.path, Reason::NoSpace { free }));
         }
@@ -195,8 +190,8 @@ impl<'a, H: Host, S: FlushStore + Drop> Arriving<'a, H, S> {
         first: usize,
     ) -> Result<(), Fault> {
         let alloc = self.alloc;
-        let (mut from, mut to) = (HEAD, first);
-        let mut at = HEAD as u64;
+        let (mut from, mut to) = (CONTENT_LEN, first);
+        let mut at = CONTENT_LEN as u64;
         for _ in 0..u64::MAX {
             let bytes = piece.get(from..to).unwrap_or(&[]);
             self.volume
@@ -248,7 +243,7 @@ impl<'a, H: Host, S: FlushStore + Drop> Arriving<'a, H, S> {
     ) -> Result<u32, Fault> {
         let alloc = self.alloc;
         let attributes = self.new_attributes(goods.attributes);
-        let head_len = first.min(piece.len()).min(HEAD);
+        let head_len = first.min(piece.len()).min(CONTENT_LEN);
         let begin = Begin {
             kind: Kind::File,
             attributes,

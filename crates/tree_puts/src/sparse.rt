@@ -1,10 +1,11 @@
 // Files with holes are put: parts of zeros are left out, and become holes.
 
-use crate::arriving::{Arriving, Goods, HEAD};
+use crate::arriving::{Arriving, Goods};
 use crate::pieces::{Incoming, read_piece};
 use flush_store::FlushStore;
 use host_trees::{Attributes, Host};
 use tree_lines::{Fault, system};
+use treefs_format::inodes::CONTENT_LEN;
 use treefs_session::Target;
 
 /// Zeros are left out in parts of so many bytes.
@@ -44,7 +45,7 @@ fn write_piece<H: Host, S: FlushStore + Drop>(
     begun: (Goods, u32),
     (at, bytes): (u64, &[u8]),
 ) -> Result<bool, Fault> {
-    let mut from = if at == 0 { HEAD } else { 0 };
+    let mut from = if at == 0 { CONTENT_LEN } else { 0 };
     let mut to = 0usize;
     for part in bytes.chunks(PART) {
         let behind = to.saturating_add(part.len());
@@ -64,7 +65,7 @@ fn end_at<H: Host, S: FlushStore + Drop>(
     (goods, block): (Goods, u32),
     size: u64,
 ) -> Result<(), Fault> {
-    if size <= HEAD as u64 {
+    if size <= CONTENT_LEN as u64 {
         return Ok(());
     }
     let target = Target::Begun(block, size - 1);

@@ -4,6 +4,8 @@ ghost use Rattle.std.specs.Prelude.{◌≡◌, ℕ, ◌*◌, ◌≤◌, ◌^◌,
 ghost use Rattle.std.specs.Str.Parse.{IsNumeral, digits_value};
 ghost use Rattle.xnfs_words.specs.Sizes.{IsBlocks, IsSize, front, last, unit_of};
 
+use store_types::BLOCK_LEN;
+
 /// How many bytes the letter behind a number stands for.
 fn unit_of(letter: u8) -> Option<u64>
     ensures { result ≡ unit_of letter }
@@ -52,8 +54,9 @@ pub fn size_of(text: &str) -> Option<u64>
 fn whole_blocks(bytes: u64) -> Option<u64>
     ensures { IfSome result (λ blocks. blocks * 512 ≡ bytes) }
 {
-    if bytes % 512 == 0 {
-        Some(bytes / 512)
+    let block = BLOCK_LEN as u64;
+    if bytes % block == 0 {
+        Some(bytes / block)
     } else {
         None
     }
