@@ -95,3 +95,4 @@ mod WriteRefused
 mod RootMarked
 mod Marked
 pub mod ForCallers
+mod FewBytes

@@ -114,16 +114,18 @@ module _ (T : Types) (known : IsLayout) (state : StoreState) (volume : Volume) (
   abbrev pub Said : StoreState → Volume → ℕ → Type 0
   Said new volume' taken = IsOpen T new volume'
       × (written_files (files_in state volume) volume.memory.clock n at bytes taken ≡ Ok (files_in new volume')) × (0 < taken) × (taken ≤ length bytes)
+      × (at + taken ≤ greatest_size)
 
   piece_said : (new : StoreState) (volume' : Volume) (taken : ℕ) → taken ≡ length piece → IsOpen T new volume' →
       files_in new volume' ≡ changed_at (files_in state volume) n (rewritten volume.memory.clock (λ b. overwritten b at piece)) → Said new volume' taken
   piece_said new volume' taken count opened files =
-      let s = is_piece.some in let f = is_piece.few in (
+      let s = is_piece.some in let f = is_piece.few in let e = is_piece.end in (
         opened,
         written_some T known state volume is_open n x x_is at bytes taken some low
             ∙ (ap (λ k. Ok (changed_at (files_in state volume) n (rewritten volume.memory.clock (λ b. overwritten b at (take k bytes))))) count
             ∙ (ap (λ l. Ok (changed_at (files_in state volume) n (rewritten volume.memory.clock (λ b. overwritten b at l))))
             (taken_again (part_left at) bytes) ∙ ap Ok (sym files))),
+        omega arith,
         omega arith,
         omega arith,
       )

@@ -479,12 +479,13 @@ module _ (laws : AreAttached) (T : Types) (known : IsLayout) (state : StoreState
           files_in new volume' ≡ changed_at (files_in state volume) n (rewritten volume.memory.clock (λ b. overwritten b at taken_bytes)) →
           Said T known state volume is_open n x x_is size_few at low zeros bytes some wide new volume' taken
       taken_said new volume' taken is opened files =
-          let t : taken ≡ min (length bytes) (512 * count - at % 512) = is in let b = bytes_some in (
+          let t : taken ≡ min (length bytes) (512 * count - at % 512) = is in let b = bytes_some in let l = taken_is in let e = end_small in (
             opened,
             written_some T known state volume is_open n x x_is at bytes taken some low
                 ∙ (ap (λ k. Ok (changed_at (files_in state volume) n (rewritten volume.memory.clock (λ b. overwritten b at (take k bytes))))) is
                 ∙ (ap (λ l. Ok (changed_at (files_in state volume) n (rewritten volume.memory.clock (λ b. overwritten b at l))))
                 (taken_least (512 * count - at % 512) bytes) ∙ ap Ok (sym files))),
+            omega arith,
             omega arith,
             omega arith,
           )

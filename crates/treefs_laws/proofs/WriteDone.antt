@@ -36,7 +36,7 @@ module _ (laws : AreAttached) (T : Types) (known : IsLayout) (old : StoreState) 
 
   abbrev Done : StoreState → Volume → ℕ → Type 0
   Done new volume' taken = IsOpen T new volume' × (written_files (files_in old volume) volume.memory.clock number at bytes taken ≡ Ok (files_in new volume'))
-      × (taken ≤ length bytes) × (0 < length bytes → 0 < taken)
+      × (taken ≤ length bytes) × (0 < length bytes → 0 < taken) × (at + taken ≤ greatest_size)
 
   module _ (middle : StoreState) (open_there : IsOpen T middle volume) (same : files_in middle volume ≡ files_in old volume) (new : StoreState)
       (volume' : Volume) (taken : ℕ)
@@ -57,15 +57,17 @@ module _ (laws : AreAttached) (T : Types) (known : IsLayout) (old : StoreState) 
               bytes taken none,
           omega arith,
           λ some. absurd (omega arith),
+          omega arith,
         ))
 
     done_now : (some : length bytes ≢ 0) → Said T known middle volume open_there number x x_is small at low (zeros some) bytes some wide new volume' taken →
         Done new volume' taken
-    done_now some (opened, files, more, less) = (
+    done_now some (opened, files, more, less, end) = (
       opened,
       ap (λ g. written_files g volume.memory.clock number at bytes taken) (sym same) ∙ files,
       less,
       λ any. more,
+      end,
     )
 
     step_done : (step : Step) → IsStep middle volume at bytes x step → Does step → Done new volume' taken

@@ -1,5 +1,5 @@
 -- Files as reads answer them.
---     HasFewBytes     no more bytes than a file may have
+--     HasFewBytes, IsOfFewBytes     no more bytes than a file may have; an inode that has no more
 --     AreAnswered     buckets of a directory are answered one after another, from one on, and then no more; listed_by, their names with the numbers
 --     read_bytes      what a read answers of a file, from a byte on: so many bytes stand at the beginning of those that it was given
 use Rattle.std.specs.Prelude.{◌≡◌, ℕ, ◌+◌, ◌≤◌, List, [], ◌∷◌, ◌++◌, length, map, take, None, Some, Result, Ok}
@@ -7,7 +7,7 @@ use Rattle.xn_model.specs.Lives.{StoreState}
 use Rattle.treefs_format.specs.Buckets.{live_entries}
 use Rattle.treefs_format.specs.Leaves.{greatest_size}
 use Rattle.treefs_format.specs.Records.{Entry}
-use Rattle.treefs_model.specs.Files.{Files, and_then, file_at}
+use Rattle.treefs_model.specs.Files.{Files, Inode, and_then, bytes_in, file_at}
 use Rattle.treefs_model.specs.declared.fault.Fault.{Fault}
 use Rattle.treefs_lookup.specs.Bytes.{read_count, read_into}
 use Rattle.treefs_lookup.specs.declared.bucket.Bucket.{Bucket}
@@ -17,6 +17,9 @@ use Rattle.treefs.specs.Reads.{IsReadDirectory}
 
 abbrev pub HasFewBytes : Files → ℕ → Type 0
 HasFewBytes files n = (bytes : List ℕ) → file_at files n ≡ Ok bytes → length bytes ≤ greatest_size
+
+abbrev pub IsOfFewBytes : Inode → Type 0
+IsOfFewBytes inode = (bytes : List ℕ) → bytes_in inode.content ≡ Ok bytes → length bytes ≤ greatest_size
 
 abbrev pub read_bytes : (ℕ → List ℕ) → Result Found Fault → ℕ → List ℕ → Result (List ℕ) Fault
 read_bytes content file at old = and_then (read_count file at (length old)) (λ count. Ok (take count (read_into content file at old)))

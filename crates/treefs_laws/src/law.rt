@@ -1,10 +1,11 @@
 // Laws of calls.
 
-ghost use Rattle.std.specs.Prelude.{◌≡◌, ◌≢◌, ◌⊎◌, ◌<◌, ◌≤◌, ℕ, ℤ, All, FitsSigned, List, Option, None, Some, Ok, Err, Result, [], drop, false, length, take, true};
+ghost use Rattle.std.specs.Prelude.{◌≡◌, ◌≢◌, ◌⊎◌, ◌+◌, ◌<◌, ◌≤◌, ℕ, ℤ, All, FitsSigned, List, Option, None, Some, Ok, Err, Result, [], drop, false, length, take, true};
 ghost use Rattle.std.specs.Int.{w64};
 ghost use Rattle.xn_model.specs.Types.{Types};
 ghost use Rattle.xn_model.specs.Lives.{StoreState};
 ghost use Rattle.store_types.specs.declared.refusal.Refusal.{Refusal};
+ghost use Rattle.treefs_format.specs.Leaves.{greatest_size};
 ghost use Rattle.treefs_format.specs.declared.kind.Kind.{Kind};
 ghost use Rattle.treefs_format.specs.declared.kind.Kind.TheVariants as kinds;
 ghost use Rattle.treefs_model.specs.Changes.{IsListing, linked, new_name, read, removed, replaced, target, truncated, unlinked, with_mtime, written};
@@ -352,12 +353,13 @@ pub fn truncate_sets_a_size()
 }
 
 /// `write_some` writes the first of the bytes, as many as it answers, over those of a file or a symbolic link from a byte on, with zeros before them where the file
-/// ends before, sets its times to the caller's, and does nothing else. Told is that the file has no more bytes than one may have.
+/// ends before, sets its times to the caller's, and does nothing else. They end within the greatest size. Told is that the file has no more bytes than one may
+/// have.
 pub fn write_changes_bytes()
     ensures { (T : Types) (old new : StoreState) (volume volume' : Volume) (number at : ℕ) (bytes : List ℕ) (taken : ℕ) → IsOpen T old volume →
         HasFewBytes (files_in old volume) number → All (λ b. b < 256) bytes → WriteDoes T old new volume volume' number at bytes (Ok taken) →
         IsOpen T new volume' × (written (files_in old volume) volume.memory.clock number at bytes taken ≡ Ok (files_in new volume'))
-        × (taken ≤ length bytes) × (0 < length bytes → 0 < taken) }
+        × (taken ≤ length bytes) × (0 < length bytes → 0 < taken) × (at + taken ≤ greatest_size) }
 {
     layout_is_known();
     attached_blocks_are_pointed_to();

@@ -5,4 +5,5 @@
 pub mod law;
 pub mod marks;
 pub mod orphans;
+pub mod sizes;
 pub mod space;

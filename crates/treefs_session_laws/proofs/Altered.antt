@@ -1,6 +1,6 @@
 -- Files of which one has its bytes changed, where orphans are freed before or behind that.
 use mathlib.Core.Path.{fun_ext}
-use Rattle.std.proofs.Common.{◌≡◌, ◌≢◌, ◌⊎◌, ℕ, ℤ, Bool, true, false, List, Option, None, Some, Result, Ok, Err, refl, sym, ◌∙◌, ap, inl, inr, subst, if◌then◌else◌}
+use Rattle.std.proofs.Common.{◌≡◌, ◌≢◌, ◌⊎◌, ℕ, ℤ, Bool, true, false, List, Option, None, Some, Result, Ok, Err, refl, sym, ◌∙◌, ap, inl, inr, length, subst, if◌then◌else◌}
 use Rattle.std.specs.Prelude.{nat_lt}
 use Rattle.std.specs.Option.{ok_or}
 use Rattle.std.proofs.lemmas.Bool.{cases_eq, eq-eqb, ne_eqb}
@@ -16,11 +16,19 @@ use Rattle.treefs_session_laws.proofs.Resized.{resized_cleared, resized_twice}
 
 -- One inode is changed
 
-here_is : (files : Files) (n : ℕ) (change : Inode → Inode) (m : ℕ) → m ≡ n → changed_at files n change m ≡ changed_in change (files n)
+pub here_is : (files : Files) (n : ℕ) (change : Inode → Inode) (m : ℕ) → m ≡ n → changed_at files n change m ≡ changed_in change (files n)
 here_is files n change m same = ap (λ t. if t then changed_in change (files n) else files m) (eq-eqb m n same)
 
-other_is : (files : Files) (n : ℕ) (change : Inode → Inode) (m : ℕ) → m ≢ n → changed_at files n change m ≡ files m
+pub other_is : (files : Files) (n : ℕ) (change : Inode → Inode) (m : ℕ) → m ≢ n → changed_at files n change m ≡ files m
 other_is files n change m ne = ap (λ t. if t then changed_in change (files n) else files m) (ne_eqb m n ne)
+
+-- the content of an inode changes; is_dated: its times too
+abbrev pub edited : Bool → ℤ → (List ℕ → List ℕ) → Inode → Inode
+edited is_dated clock change inode = record inode {
+  mtime = if is_dated then clock else inode.mtime;
+  ctime = if is_dated then clock else inode.ctime;
+  content = with_bytes change inode.content;
+}
 
 was_some : (change : Inode → Inode) (o : Option Inode) (inode : Inode) → changed_in change o ≡ Some inode → (i : Inode) × (o ≡ Some i) × (change i ≡ inode)
 was_some change None inode is = absurd (cc is)
@@ -38,22 +46,26 @@ module _ (change : List ℕ → List ℕ) (clears : (bytes left : List ℕ) → 
   content_left (Directory parent names) (File left) is = absurd is
   content_left (Directory parent names) (SymbolicLink left) is = absurd is
 
-  module _ (Among : ℕ → Type 0) (tells : (n : ℕ) → Among n ⊎ (Among n → ⊥)) (clock : ℤ) (n : ℕ) (old new : Files) (reaped : IsReaped Among old new) where
+  module _ (Among : ℕ → Type 0) (tells : (n : ℕ) → Among n ⊎ (Among n → ⊥)) (is_dated : Bool) (clock : ℤ) (n : ℕ) (old new : Files)
+      (reaped : IsReaped Among old new) where
+    abbrev edit : Inode → Inode
+    edit = edited is_dated clock change
+
     abbrev now : Files → Files
-    now files = changed_at files n (rewritten clock change)
+    now files = changed_at files n edit
 
     orphan_now : (m : ℕ) → IsOrphan Among old m → IsOrphan Among (now old) m
     orphan_now m orphan = elim (cases_eq m n) [
       | inl same ↦ record {
         among = orphan.among;
-        inode = rewritten clock change orphan.inode;
-        there = here_is old n (rewritten clock change) m same ∙ ap (changed_in (rewritten clock change)) (sym (ap old same) ∙ orphan.there);
+        inode = edit orphan.inode;
+        there = here_is old n edit m same ∙ ap (changed_in edit) (sym (ap old same) ∙ orphan.there);
         unlinked = orphan.unlinked;
       }
       | inr ne ↦ record {
         among = orphan.among;
         inode = orphan.inode;
-        there = other_is old n (rewritten clock change) m ne ∙ orphan.there;
+        there = other_is old n edit m ne ∙ orphan.there;
         unlinked = orphan.unlinked;
       }
     ]
@@ -63,9 +75,9 @@ module _ (change : List ℕ → List ℕ) (clears : (bytes left : List ℕ) → 
         let was = reaped.others m (λ orphan. not_orphan (orphan_now m orphan)) in
         elim (cases_eq m n) [
           | inl same ↦
-              here_is new n (rewritten clock change) m same
-              ∙ (ap (changed_in (rewritten clock change)) (sym (ap new same) ∙ (was ∙ ap old same)) ∙ sym (here_is old n (rewritten clock change) m same))
-          | inr ne ↦ other_is new n (rewritten clock change) m ne ∙ (was ∙ sym (other_is old n (rewritten clock change) m ne))
+              here_is new n edit m same
+              ∙ (ap (changed_in edit) (sym (ap new same) ∙ (was ∙ ap old same)) ∙ sym (here_is old n edit m same))
+          | inr ne ↦ other_is new n edit m ne ∙ (was ∙ sym (other_is old n edit m ne))
         ]
 
     abbrev Left : ℕ → Inode → Type 0
@@ -73,30 +85,30 @@ module _ (change : List ℕ → List ℕ) (clears : (bytes left : List ℕ) → 
 
     left_here : (inode : Inode) → IsOrphan Among (now old) n → now old n ≡ Some inode → now new n ≢ None → Left n inode
     left_here inode orphan there some =
-        let was = was_some (rewritten clock change) (old n) inode (sym (here_is old n (rewritten clock change) n refl) ∙ there) in
+        let was = was_some edit (old n) inode (sym (here_is old n edit n refl) ∙ there) in
         let no_links = ap (λ (i : Inode). i.links) (was.2 ∙ same_Some inode orphan.inode (sym there ∙ orphan.there)) ∙ orphan.unlinked in
         let old_orphan : IsOrphan Among old n = record { among = orphan.among; inode = was.0; there = was.1; unlinked = no_links } in
         let l = reaped.left n was.0 old_orphan was.1
-        (λ none. some (here_is new n (rewritten clock change) n refl ∙ ap (changed_in (rewritten clock change)) none)) in (
+        (λ none. some (here_is new n edit n refl ∙ ap (changed_in edit) none)) in (
           with_bytes change l.0,
           subst (λ (i : Inode). IsLeftOf i.content (with_bytes change l.0)) was.2 (content_left was.0.content l.0 l.1),
-          here_is new n (rewritten clock change) n refl
-              ∙ (ap (changed_in (rewritten clock change)) l.2 ∙ ap (λ (i : Inode). Some (record i { content = with_bytes change l.0 })) was.2),
+          here_is new n edit n refl
+              ∙ (ap (changed_in edit) l.2 ∙ ap (λ (i : Inode). Some (record i { content = with_bytes change l.0 })) was.2),
         )
 
     left_other : (m : ℕ) (inode : Inode) → m ≢ n → IsOrphan Among (now old) m → now old m ≡ Some inode → now new m ≢ None → Left m inode
     left_other m inode ne orphan there some =
-        let old_there : old m ≡ Some inode = sym (other_is old n (rewritten clock change) m ne) ∙ there in
+        let old_there : old m ≡ Some inode = sym (other_is old n edit m ne) ∙ there in
         let old_orphan : IsOrphan Among old m = record {
           among = orphan.among;
           inode = orphan.inode;
-          there = sym (other_is old n (rewritten clock change) m ne) ∙ orphan.there;
+          there = sym (other_is old n edit m ne) ∙ orphan.there;
           unlinked = orphan.unlinked;
         } in
-        let l = reaped.left m inode old_orphan old_there (λ none. some (other_is new n (rewritten clock change) m ne ∙ none)) in
-        (l.0, l.1, other_is new n (rewritten clock change) m ne ∙ l.2)
+        let l = reaped.left m inode old_orphan old_there (λ none. some (other_is new n edit m ne ∙ none)) in
+        (l.0, l.1, other_is new n edit m ne ∙ l.2)
 
-    pub altered_reaped : IsReaped Among (changed_at old n (rewritten clock change)) (changed_at new n (rewritten clock change))
+    pub altered_reaped : IsReaped Among (changed_at old n edit) (changed_at new n edit)
     altered_reaped = record {
       others = others_now;
       left = λ m inode orphan there some. elim (cases_eq m n) [
@@ -109,28 +121,40 @@ module _ (change : List ℕ → List ℕ) (clears : (bytes left : List ℕ) → 
 
 -- Its bytes are there, also before orphans were freed
 
+same_bytes : (a b : List ℕ) → ◌≡◌ {A = Result (List ℕ) Fault} (Ok a) (Ok b) → a ≡ b
+same_bytes a b e = cc e
+
 file_of : (o : Option Inode) (bytes : List ℕ) → and_then (ok_or o NoEntry) (λ inode. bytes_in inode.content) ≡ Ok bytes →
     (inode : Inode) × (o ≡ Some inode) × (bytes_in inode.content ≡ Ok bytes)
 file_of None bytes is = absurd (cc is)
 file_of (Some inode) bytes is = (inode, refl, is)
 
-left_bytes : (content left : Content) (bytes : List ℕ) → IsLeftOf content left → bytes_in left ≡ Ok bytes → (others : List ℕ) × (bytes_in content ≡ Ok others)
-left_bytes (File others) left bytes is there = (others, refl)
-left_bytes (SymbolicLink others) left bytes is there = (others, refl)
+-- as many as before
+abbrev pub AreAsMany : List ℕ → Result (List ℕ) Fault → Type 0
+AreAsMany bytes before = (others : List ℕ) × (before ≡ Ok others) × (length bytes ≡ length others)
+
+left_bytes : (content left : Content) (bytes : List ℕ) → IsLeftOf content left → bytes_in left ≡ Ok bytes → AreAsMany bytes (bytes_in content)
+left_bytes (File others) (File left) bytes is there = (others, refl, sym (ap length (same_bytes left bytes there)) ∙ is.0)
+left_bytes (SymbolicLink others) (SymbolicLink left) bytes is there = (others, refl, sym (ap length (same_bytes left bytes there)) ∙ is.0)
 left_bytes (Directory parent names) (Directory directory left) bytes is there = absurd (cc there)
+left_bytes (File others) (SymbolicLink left) bytes is there = absurd is
+left_bytes (File others) (Directory directory left) bytes is there = absurd is
+left_bytes (SymbolicLink others) (File left) bytes is there = absurd is
+left_bytes (SymbolicLink others) (Directory directory left) bytes is there = absurd is
 left_bytes (Directory parent names) (File left) bytes is there = absurd is
 left_bytes (Directory parent names) (SymbolicLink left) bytes is there = absurd is
 
 module _ (Among : ℕ → Type 0) (tells : (n : ℕ) → Among n ⊎ (Among n → ⊥)) (n : ℕ) (old new : Files) (reaped : IsReaped Among old new) where
-  pub file_was : (bytes : List ℕ) → file_at new n ≡ Ok bytes → (others : List ℕ) × (file_at old n ≡ Ok others)
+  pub file_was : (bytes : List ℕ) → file_at new n ≡ Ok bytes → AreAsMany bytes (file_at old n)
   file_was bytes is = elim (is_orphan_or_not Among tells old n) [
-    | inr not_orphan ↦ (bytes, ap (λ o. and_then (ok_or o NoEntry) (λ (inode : Inode). bytes_in inode.content)) (sym (reaped.others n not_orphan)) ∙ is)
+    | inr not_orphan ↦
+        (bytes, ap (λ o. and_then (ok_or o NoEntry) (λ (inode : Inode). bytes_in inode.content)) (sym (reaped.others n not_orphan)) ∙ is, refl)
     | inl orphan ↦
         let f = file_of (new n) bytes is in
         let l = reaped.left n orphan.inode orphan orphan.there (λ none. absurd (cc (sym f.1 ∙ none))) in
         let same : record orphan.inode { content = l.0 } ≡ f.0 = same_Some (record orphan.inode { content = l.0 }) f.0 (sym l.2 ∙ f.1) in
         let b = left_bytes orphan.inode.content l.0 bytes l.1 (ap (λ (i : Inode). bytes_in i.content) same ∙ f.2) in
-        (b.0, ap (λ o. and_then (ok_or o NoEntry) (λ (inode : Inode). bytes_in inode.content)) orphan.there ∙ b.1)
+        (b.0, ap (λ o. and_then (ok_or o NoEntry) (λ (inode : Inode). bytes_in inode.content)) orphan.there ∙ b.1, b.2)
   ]
 
 -- A size is set
@@ -210,7 +234,7 @@ module _ (Among : ℕ → Type 0) (tells : (n : ℕ) → Among n ⊎ (Among n �
         changed_at old n (rewritten clock (resized size)),
         truncated_so old clock n size was.0 was.1 t.2,
         subst (IsReaped Among (changed_at old n (rewritten clock (resized size)))) (sym t.3)
-            (altered_reaped (resized size) (resized_cleared size) Among tells clock n old middle reaped),
+            (altered_reaped (resized size) (resized_cleared size) Among tells true clock n old middle reaped),
       )
 
 -- Sizes that are set, and orphans that are freed, one after another

@@ -178,7 +178,7 @@ module _ (T : Types) (known : AreKnown T)
   closing : (old new : StoreState) (v v' : Volume) (result : Result (Unit {0}) Fault) → IsOpen T old v → Tries Closes_so T most_tries old new v v' result →
       IsClosing T old new v v'
   closing old new v v' result is_open tries =
-      tries_keep T (IsClosing T) (λ old new v v' is. is.is_open) (closing_same T) (closing_then T) room_closing Closes_so close_closing most_tries
+      tries_keep T (IsOpen T) (IsClosing T) (λ old new v v' is. is.is_open) (closing_same T) (closing_then T) room_closing Closes_so close_closing most_tries
       old new v v' result is_open tries
 
   unheld_closing : (old new : StoreState) (v v' : Volume) → IsClosing T old new v v' → IsAsBeforeButOrphans T [] old new v v'
@@ -221,6 +221,6 @@ module _ (T : Types) (known : AreKnown T)
   pub closes_all : (old new : StoreState) (v v' : Volume) → IsOpen T old v → Tries Closes_so T most_tries old new v v' (Ok tt) →
       files_in new v' ≡ without_orphans v.memory.orphans (files_in old v)
   closes_all old new v v' is_open tries =
-      let last = tries_end T (IsClosing T) (λ old new v v' is. is.is_open) (closing_same T) (closing_then T) room_closing Closes_so
+      let last = tries_end T (IsOpen T) (IsClosing T) (λ old new v v' is. is.is_open) (closing_same T) (closing_then T) room_closing Closes_so
       (λ old new v v' fault is_open again does. close_closing old new v v' (Err fault) is_open does) most_tries old new v v' tt is_open tries in
       frees_all old last.0 new v last.1 v' last.2 last.3

@@ -116,7 +116,7 @@ module _ (T : Types) (known : AreKnown T) where
   pub writes_before : (old new : StoreState) (v v' : Volume) (result : Result (Unit {0}) Fault) → IsOpen T old v → Writes T old new v v' result →
       IsAsBefore T old new v v'
   writes_before old new v v' result is_open writes =
-      tries_keep T (IsAsBefore T) (λ old new v v' is. is.is_open) (before_same T) (before_then T) known.room Writes_so write_before most_tries old new v v'
+      tries_keep T (IsOpen T) (IsAsBefore T) (λ old new v v' is. is.is_open) (before_same T) (before_then T) known.room Writes_so write_before most_tries old new v v'
       result is_open writes
 
   -- Orphans of some numbers are freed
@@ -141,7 +141,7 @@ module _ (T : Types) (known : AreKnown T) where
     pub reaps_but : (old new : StoreState) (v v' : Volume) (result : Result (Unit {0}) Fault) → IsOpen T old v → Reaps T numbers old new v v' result →
         But old new v v'
     reaps_but old new v v' result is_open reaps =
-        tries_keep T But (opens T (Contains numbers) (among_or_not numbers)) (but_same T (Contains numbers) (among_or_not numbers))
+        tries_keep T (IsOpen T) But (opens T (Contains numbers) (among_or_not numbers)) (but_same T (Contains numbers) (among_or_not numbers))
         (but_then T (Contains numbers) (among_or_not numbers))
         but_room Reaping reap_but most_tries old new v v' result is_open reaps
 
@@ -149,7 +149,7 @@ module _ (T : Types) (known : AreKnown T) where
     pub reaps_all : (old new : StoreState) (v v' : Volume) → IsOpen T old v → Reaps T numbers old new v v' (Ok tt) →
         files_in new v' ≡ without_orphans numbers (files_in old v)
     reaps_all old new v v' is_open reaps =
-        let last = tries_end T But (opens T (Contains numbers) (among_or_not numbers)) (but_same T (Contains numbers) (among_or_not numbers))
+        let last = tries_end T (IsOpen T) But (opens T (Contains numbers) (among_or_not numbers)) (but_same T (Contains numbers) (among_or_not numbers))
         (but_then T (Contains numbers) (among_or_not numbers))
         but_room Reaping (λ old new v v' fault is_open again does. reap_but old new v v' (Err fault) is_open does) most_tries old new v v' tt is_open reaps in
         let all = known.reaped last.0 new last.1 v' numbers (last.2).is_open last.3 in
@@ -222,7 +222,7 @@ module _ (T : Types) (known : AreKnown T) where
       tried : (old new : StoreState) (v v' : Volume) (answer : A) → IsOpen T old v → Tries Does T most_tries old new v v' (Ok answer) →
           IsMade old new v v' answer
       tried old new v v' answer is_open tries =
-          let last = tries_end T (IsAsBefore T) (λ old new v v' is. is.is_open) (before_same T) (before_then T) known.room Does refused most_tries old new v v'
+          let last = tries_end T (IsOpen T) (IsAsBefore T) (λ old new v v' is. is.is_open) (before_same T) (before_then T) known.room Does refused most_tries old new v v'
           answer is_open tries in
           (last.0, last.1, as_before old last.0 v last.1 last.2, last.3)
 
@@ -238,7 +238,7 @@ module _ (T : Types) (known : AreKnown T) where
           IsMade old new v v' answer
       made_freely old new v v' answer is_open (inl (tries, space)) = tried old new v v' answer is_open tries
       made_freely old new v v' answer is_open (inr (fault, middle, w, tries, lacks, frees)) =
-          let first = tries_lack T (IsAsBefore T) (λ old new v v' is. is.is_open) (before_same T) (before_then T) known.room Does refused most_tries old middle
+          let first = tries_lack T (IsOpen T) (IsAsBefore T) (λ old new v v' is. is.is_open) (before_same T) (before_then T) known.room Does refused most_tries old middle
           v w fault is_open lacks tries in
           let last = frees_and_tries middle new w v' answer first.is_open frees in
           (last.0, last.1, unheld_then old middle last.0 v w last.1 (as_before old middle v w first) last.2, last.3)

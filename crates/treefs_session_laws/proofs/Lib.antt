@@ -13,3 +13,6 @@ mod Resized
 mod Altered
 mod Kept
 mod Sized
+mod Pieces
+mod Rewriting
+mod Written

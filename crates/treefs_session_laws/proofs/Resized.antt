@@ -15,7 +15,7 @@ length_resized size bytes =
       | inr less ↦ let front = length-take-le size bytes less in omega arith
     ])
 
-get_resized : (size : ℕ) (bytes : List ℕ) (i : ℕ) → i < size → slice_index (resized size bytes) i ≡ slice_index bytes i
+pub get_resized : (size : ℕ) (bytes : List ℕ) (i : ℕ) → i < size → slice_index (resized size bytes) i ≡ slice_index bytes i
 get_resized size bytes i lt = elim (cases_lt i (length bytes)) [
   | inl within ↦
       let long : i < length (take size bytes) = elim (cases_lt (length bytes) size) [

@@ -19,10 +19,10 @@ use Rattle.treefs_session_laws.proofs.Freed.{AreKnown, held_or_not}
 use Rattle.treefs_session_laws.proofs.Kept.{made_last}
 
 -- the session's place and clock stay
-abbrev Stays : Volume → Volume → Type 0
+abbrev pub Stays : Volume → Volume → Type 0
 Stays v v' = (v'.tree ≡ v.tree) × (v'.memory.clock ≡ v.memory.clock)
 
-same_stays : (v v' : Volume) → v' ≡ v → Stays v v'
+pub same_stays : (v v' : Volume) → v' ≡ v → Stays v v'
 same_stays v v' is = (ap (λ (w : Volume). w.tree) is, ap (λ (w : Volume). w.memory.clock) is)
 
 size_stays : (T : Types) (old new : StoreState) (v v' : Volume) (n : ℕ) (planned : Result SizePlan Fault) (result : Result (Unit {0}) Fault) →
@@ -86,7 +86,8 @@ module _ (T : Types) (known : AreKnown T) (held : List ℕ) (n size : ℕ) where
     pub session_sizes : (old new : StoreState) (v v' : Volume) → IsOpen T old v → MakesFreely Sizes T held old new v v' (Ok tt) →
         IsOpen T new v' × AreTruncated (IsUnheld held) (held_or_not held) v.memory.clock n size (files_in old v) (files_in new v')
     session_sizes old new v v' is_open makes =
-        let last = made_last T known held IsSized (λ old new v v' is. is.is_open) chain frees Sizes
+        let last = made_last T known held (IsOpen T) (λ s v holds. holds) IsSized (λ old new v v' is. is.is_open) chain
+        (λ old new v v' holds is. frees old new v v' is) Sizes
         (λ old new v v' fault is_open again does. refused old new v v' fault is_open does) old new v v' tt is_open makes in
         let d = done last.0 new last.1 v' (last.2).is_open last.3 in (
           d.0,
