@@ -96,3 +96,11 @@ mod RootMarked
 mod Marked
 pub mod ForCallers
 mod FewBytes
+mod ReadBlocks
+mod AsideTree
+mod AsideBegun
+mod AsideEdits
+mod AsideTrims
+mod AsideRun
+mod AsideWritten
+mod BegunWritten

@@ -352,6 +352,13 @@ module _ (node inode top : ℕ) (type type' : ℕ → ℕ) (old new : ℕ → Li
       ];
     }
 
+    pub still_leaf : (i : ℕ) → leaf_block new r i ≢ 0 →
+        (leaf_block new r i ≡ leaf_block old r i) × (type' (leaf_block old r i) ≡ type (leaf_block old r i))
+    still_leaf i some = elim (shrunk r (λ there. (r_is, r_kept)) 0 (steps i) (steps_way i)) [
+      | inl s ↦ (s.0, (s.1 (λ z. some (s.0 ∙ z))).0)
+      | inr s ↦ absurd (some s.0)
+    ]
+
   -- It is a volume still
 
   now_at : (m k : ℕ) (os : List ℕ) → IsWay os k → block_at new (block_numbered new top m) os ≢ 0 →

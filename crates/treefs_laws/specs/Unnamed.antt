@@ -1,8 +1,9 @@
 -- An inode that has no number.
---     IsUnnamed     nothing points to its block; those on the ways from it that are nodes have their type
-use Rattle.std.specs.Prelude.{◌≡◌, ◌≢◌, ℕ, suc, List, IsTrue}
+--     IsUnnamed     nothing points to its block; those on the ways from it have their types
+use Rattle.std.specs.Prelude.{◌≡◌, ◌≢◌, ℕ, suc, ◌<◌, List, IsTrue}
 use Rattle.xn_model.specs.Lives.{StoreState}
-use Rattle.treefs_model.specs.Reading.{block_at, pointed}
+use Rattle.treefs_format.specs.Paths.{leaf_count}
+use Rattle.treefs_model.specs.Reading.{block_at, leaf_block, pointed}
 use Rattle.treefs_model.specs.Trees.{has_pointer}
 use Rattle.treefs_lookup.specs.Readable.{readable}
 use Rattle.treefs.specs.declared.volume.Volume.{Volume}
@@ -14,6 +15,8 @@ pub record IsUnnamed (state : StoreState) (volume : Volume) (block : ℕ) : Type
   pub typed : kinds state volume.tree.fs.number block ≡ volume.tree.inode_type
   pub nodes : (l : ℕ) (offsets : List ℕ) → IsWay offsets (suc l) → block_at (readable state volume.tree.fs.number) block offsets ≢ 0 →
       kinds state volume.tree.fs.number (block_at (readable state volume.tree.fs.number) block offsets) ≡ volume.tree.node_type
+  pub leaves : (i : ℕ) → i < leaf_count → leaf_block (readable state volume.tree.fs.number) block i ≢ 0 →
+      kinds state volume.tree.fs.number (leaf_block (readable state volume.tree.fs.number) block i) ≡ 2
   pub no_root : volume.tree.top ≢ block
   pub unled : (p o : ℕ) → IsTrue (has_pointer volume.tree.node_type volume.tree.inode_type (kinds state volume.tree.fs.number p) o) →
       pointed (readable state volume.tree.fs.number) p o ≢ block

@@ -1,6 +1,6 @@
 // Laws of inodes without links, and of blocks that nothing points to.
 
-ghost use Rattle.std.specs.Prelude.{◌≡◌, ℕ, Bool, Contains, List, Ok, Result};
+ghost use Rattle.std.specs.Prelude.{◌≡◌, ◌<◌, ℕ, All, Bool, Contains, List, Ok, Result};
 ghost use Rattle.xn_model.specs.Types.{Types};
 ghost use Rattle.xn_model.specs.Lives.{StoreState};
 ghost use Rattle.treefs_model.specs.declared.fault.Fault.{Fault};
@@ -8,6 +8,7 @@ ghost use Rattle.treefs.specs.Reaping.{ReapDoes};
 ghost use Rattle.treefs.specs.Trimming.{GiveUpDoes};
 ghost use Rattle.treefs.specs.declared.volume.Volume.{Volume};
 ghost use Rattle.treefs_model.specs.Files.{Inode};
+ghost use Rattle.treefs_puts.specs.Writing.{WriteBegunDoes};
 ghost use Rattle.treefs_laws.specs.Begun.{IsBegun};
 ghost use Rattle.treefs_laws.specs.Kept.{files_in};
 ghost use Rattle.treefs_laws.specs.Open.{IsOpen};
@@ -15,7 +16,10 @@ ghost use Rattle.treefs_laws.specs.Orphans.{IsReaped, WaitLess, without_orphans}
 ghost use Rattle.treefs_laws.specs.Unnamed.{IsUnnamed};
 
 use treefs_format::law::leaves_are_side_by_side;
-use treefs_values::law::{layout_is_known, new_inodes_are_free};
+use treefs_values::law::{
+    attached_blocks_are_pointed_to, empty_blocks_change_no_file, layout_is_known,
+    new_inodes_are_free,
+};
 
 /// `reap` frees inodes without links, of the numbers that it is told, and does nothing else. Whatever it answers, all other inodes are as before, and an inode
 /// that it leaves has no links still, and says what it said, but for bytes that are 0 and names that are gone. Once it is done none of them is left. A
@@ -43,4 +47,15 @@ pub fn give_up_changes_no_file()
 {
     layout_is_known();
     new_inodes_are_free();
+}
+
+/// `write_begun` of an inode that has no number changes no file, whatever it answers, and leaves it without one.
+pub fn begun_writes_change_no_file()
+    ensures { (T : Types) (old new : StoreState) (volume : Volume) (block at : ℕ) (bytes : List ℕ) (result : Result ℕ Fault) → IsOpen T old volume →
+        IsUnnamed old volume block → All (λ b. b < 256) bytes → WriteBegunDoes T old new volume block at bytes result →
+        IsOpen T new volume × (files_in new volume ≡ files_in old volume) × IsUnnamed new volume block }
+{
+    layout_is_known();
+    attached_blocks_are_pointed_to();
+    empty_blocks_change_no_file();
 }
