@@ -28,14 +28,9 @@ module _ (node inode top c : ℕ) where
   pub nowhere : (content : ℕ → List ℕ) (b p : ℕ) → b ≡ 0 → pointed content b p ≡ 0
   nowhere content b p z = ap (λ b. pointed content b p) z
 
-  -- One of its blocks changes, but for pointers
+  -- No pointer changes, and no type
 
-  module _ (type : ℕ → ℕ) (old new : ℕ → List ℕ) (a : IsAside type old) (b : ℕ) (is_in : IsIn old c b) (changed : IsChangedAt b old new)
-      (keeps : SamePointers node inode type old new) (whole : IsWholeBlock (new b)) where
-    placed_kept : (x : ℕ) → IsRead old top x → (type x ≡ type x) × (new x ≡ old x)
-    placed_kept x read =
-        (refl, changed x (λ same. unread node inode top type old a.volume c a.there a.no_root a.is_block a.unled x (subst (IsIn old c) (sym same) is_in) read))
-
+  module _ (type : ℕ → ℕ) (old new : ℕ → List ℕ) (a : IsAside type old) (keeps : SamePointers node inode type old new) where
     placed_point : (k p : ℕ) (q : List ℕ) → IsWay (p ∷ q) k → block_at new c q ≡ block_at old c q → block_at new c (p ∷ q) ≡ block_at old c (p ∷ q)
     placed_point k p q way same = ap (λ x. pointed new x p) same ∙ elim (cases_eq (block_at old c q) 0) [
       | inl z ↦ nowhere new (block_at old c q) p z ∙ sym (nowhere old (block_at old c q) p z)
@@ -46,6 +41,27 @@ module _ (node inode top c : ℕ) where
     placed_way k [] way = absurd way
     placed_way k (p ∷ []) way = placed_point k p [] way refl
     placed_way k (p ∷ r ∷ q) way = placed_point k p (r ∷ q) way (placed_way (suc k) (r ∷ q) way.3)
+
+    pub steady_aside : IsVolume node inode type new top → IsAside type new
+    steady_aside volume = record {
+      volume = volume;
+      there = a.there;
+      no_root = a.no_root;
+      is_block = record {
+        typed = a.is_block.typed;
+        nodes = λ l os way some. ap type (placed_way (suc l) os way) ∙ a.is_block.nodes l os way (λ z. some (placed_way (suc l) os way ∙ z));
+      };
+      leaves = λ i few some. ap type (placed_way 0 (steps i) (steps_way i)) ∙ a.leaves i few (λ z. some (placed_way 0 (steps i) (steps_way i) ∙ z));
+      unled = λ p o has same. a.unled p o has (sym (keeps p o has) ∙ same);
+    }
+
+  -- One of its blocks changes, but for pointers
+
+  module _ (type : ℕ → ℕ) (old new : ℕ → List ℕ) (a : IsAside type old) (b : ℕ) (is_in : IsIn old c b) (changed : IsChangedAt b old new)
+      (keeps : SamePointers node inode type old new) (whole : IsWholeBlock (new b)) where
+    placed_kept : (x : ℕ) → IsRead old top x → (type x ≡ type x) × (new x ≡ old x)
+    placed_kept x read =
+        (refl, changed x (λ same. unread node inode top type old a.volume c a.there a.no_root a.is_block a.unled x (subst (IsIn old c) (sym same) is_in) read))
 
     pub placed_files : files_of new top ≡ files_of old top
     placed_files = files_read node inode top type type old new a.volume placed_kept
@@ -64,21 +80,11 @@ module _ (node inode top c : ℕ) where
     }
 
     pub placed_aside : IsAside type new
-    placed_aside = record {
-      volume = volume_read node inode top type type old new a.volume placed_kept placed_apart placed_whole;
-      there = a.there;
-      no_root = a.no_root;
-      is_block = record {
-        typed = a.is_block.typed;
-        nodes = λ l os way some. ap type (placed_way (suc l) os way) ∙ a.is_block.nodes l os way (λ z. some (placed_way (suc l) os way ∙ z));
-      };
-      leaves = λ i few some. ap type (placed_way 0 (steps i) (steps_way i)) ∙ a.leaves i few (λ z. some (placed_way 0 (steps i) (steps_way i) ∙ z));
-      unled = λ p o has same. a.unled p o has (sym (keeps p o has) ∙ same);
-    }
+    placed_aside = steady_aside type old new a keeps (volume_read node inode top type type old new a.volume placed_kept placed_apart placed_whole)
 
     pub placed_in : (x : ℕ) → IsIn old c x → IsIn new c x
     placed_in x (inl same) = inl same
-    placed_in x (inr (k, os, way, is)) = inr (k, os, way, is ∙ sym (placed_way k os way))
+    placed_in x (inr (k, os, way, is)) = inr (k, os, way, is ∙ sym (placed_way type old new a keeps k os way))
 
   -- A new block is attached to it
 

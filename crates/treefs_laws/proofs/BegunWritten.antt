@@ -38,6 +38,7 @@ use Rattle.treefs_laws.specs.Unnamed.{IsUnnamed}
 use Rattle.treefs_laws.proofs.AsideBegun.{IsAsideAt, Stays, stays_then}
 use Rattle.treefs_laws.proofs.AsideEdits.{content_made, does_stays, leaf_made, ran_first, size_ran}
 use Rattle.treefs_laws.proofs.AsideTrims.{trim_aside}
+use Rattle.treefs_laws.proofs.AsideVolume.{aside_unnamed, unnamed_aside}
 use Rattle.treefs_laws.proofs.AsideWritten.{run_aside}
 use Rattle.treefs_laws.proofs.Attaching.{AreAttached}
 use Rattle.treefs_laws.proofs.ForgottenBlocks.{stays_open}
@@ -134,14 +135,7 @@ module _ (laws : AreAttached) (T : Types) (known : IsLayout) (old : StoreState) 
   here : At c old
   here = record {
     here = record { store = is_open.kept.store; root = is_open.root; volume = is_open.kept.bytes };
-    aside = record {
-      volume = is_open.kept.bytes;
-      there = unnamed.there;
-      no_root = λ z. unnamed.no_root (sym z);
-      is_block = record { typed = unnamed.typed; nodes = unnamed.nodes };
-      leaves = unnamed.leaves;
-      unled = unnamed.unled;
-    };
+    aside = unnamed_aside T old volume c is_open unnamed;
   }
 
   abbrev pub Said : StoreState → Type 0
@@ -149,18 +143,7 @@ module _ (laws : AreAttached) (T : Types) (known : IsLayout) (old : StoreState) 
 
   said : (new : StoreState) → Stay c old new → Said new
   said new (there, files) =
-      let o = stays_open T old new volume is_open there.here files in (
-        o.0,
-        o.1,
-        record {
-          there = there.aside.there;
-          typed = there.aside.is_block.typed;
-          nodes = there.aside.is_block.nodes;
-          leaves = there.aside.leaves;
-          no_root = λ z. there.aside.no_root (sym z);
-          unled = there.aside.unled;
-        },
-      )
+      let o = stays_open T old new volume is_open there.here files in (o.0, o.1, aside_unnamed new volume c there.aside)
 
   -- The trim before
 

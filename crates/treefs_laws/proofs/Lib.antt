@@ -98,6 +98,9 @@ pub mod ForCallers
 mod FewBytes
 mod ReadBlocks
 mod AsideTree
+mod AsideVolume
+mod AsideCleared
+mod AsideTimes
 mod AsideBegun
 mod AsideEdits
 mod AsideTrims

@@ -322,6 +322,23 @@ module _ (node inode top : ℕ) (type type' : ℕ → ℕ) (old new : ℕ → Li
     | inr s ↦ no_file new m m_some s.0
   ]
 
+  -- an inode that is left may lack some of its blocks
+  inode_left : (a : ℕ) → Inode a → Kept a → IsInodeBlock node inode type' new a
+  inode_left a a_is kept = record {
+    typed = kept.0 ∙ a_is.typed;
+    nodes = λ l os way some. elim (shrunk a (λ there. (a_is, kept)) (suc l) os way) [
+      | inl s ↦ let there : at a os ≢ 0 = λ z. some (s.0 ∙ z) in ap type' s.0 ∙ ((s.1 there).0 ∙ a_is.nodes l os way there)
+      | inr s ↦ absurd (some s.0)
+    ];
+  }
+
+  leaf_left : (a : ℕ) → Inode a → Kept a → (i : ℕ) → leaf_block new a i ≢ 0 →
+      (leaf_block new a i ≡ leaf_block old a i) × (type' (leaf_block old a i) ≡ type (leaf_block old a i))
+  leaf_left a a_is kept i some = elim (shrunk a (λ there. (a_is, kept)) 0 (steps i) (steps_way i)) [
+    | inl s ↦ (s.0, (s.1 (λ z. some (s.0 ∙ z))).0)
+    | inr s ↦ absurd (some s.0)
+  ]
+
   -- of an inode, whose tree gets fewer pointers
   module _ (no_table : r ≢ top) where
     r_kept : Kept r
@@ -344,20 +361,23 @@ module _ (node inode top : ℕ) (type type' : ℕ → ℕ) (old new : ℕ → Li
     ]
 
     pub still_inode : IsInodeBlock node inode type' new r
-    still_inode = record {
-      typed = r_kept.0 ∙ r_is.typed;
-      nodes = λ l os way some. elim (shrunk r (λ there. (r_is, r_kept)) (suc l) os way) [
-        | inl s ↦ let there : at r os ≢ 0 = λ z. some (s.0 ∙ z) in ap type' s.0 ∙ ((s.1 there).0 ∙ r_is.nodes l os way there)
-        | inr s ↦ absurd (some s.0)
-      ];
-    }
+    still_inode = inode_left r r_is r_kept
 
     pub still_leaf : (i : ℕ) → leaf_block new r i ≢ 0 →
         (leaf_block new r i ≡ leaf_block old r i) × (type' (leaf_block old r i) ≡ type (leaf_block old r i))
-    still_leaf i some = elim (shrunk r (λ there. (r_is, r_kept)) 0 (steps i) (steps_way i)) [
-      | inl s ↦ (s.0, (s.1 (λ z. some (s.0 ∙ z))).0)
-      | inr s ↦ absurd (some s.0)
-    ]
+    still_leaf = leaf_left r r_is r_kept
+
+  -- one that no pointer leads to is left too
+  module _ (a : ℕ) (a_is : IsInodeBlock node inode type old a) (unled : IsUnled node inode type old a) where
+    a_kept : Kept a
+    a_kept = elim (kept_or_lost a) [ inl k ↦ k | inr lost ↦ absurd (unled holder lost.offset lost.pointer lost.led) ]
+
+    pub unled_inode : IsInodeBlock node inode type' new a
+    unled_inode = inode_left a a_is a_kept
+
+    pub unled_leaf : (i : ℕ) → leaf_block new a i ≢ 0 →
+        (leaf_block new a i ≡ leaf_block old a i) × (type' (leaf_block old a i) ≡ type (leaf_block old a i))
+    unled_leaf = leaf_left a a_is a_kept
 
   -- It is a volume still
 

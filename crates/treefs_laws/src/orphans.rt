@@ -6,6 +6,7 @@ ghost use Rattle.xn_model.specs.Lives.{StoreState};
 ghost use Rattle.treefs_model.specs.declared.fault.Fault.{Fault};
 ghost use Rattle.treefs.specs.Reaping.{ReapDoes};
 ghost use Rattle.treefs.specs.Trimming.{GiveUpDoes};
+ghost use Rattle.treefs.specs.WritingTimes.{WriteTimesDoes};
 ghost use Rattle.treefs.specs.declared.volume.Volume.{Volume};
 ghost use Rattle.treefs_model.specs.Files.{Inode};
 ghost use Rattle.treefs_puts.specs.Writing.{WriteBegunDoes};
@@ -58,4 +59,15 @@ pub fn begun_writes_change_no_file()
     layout_is_known();
     attached_blocks_are_pointed_to();
     empty_blocks_change_no_file();
+}
+
+/// `write_times` and `reap` leave an inode that has no number without one, whatever they answer.
+pub fn inodes_stay_unnamed()
+    ensures times { (T : Types) (old new : StoreState) (volume volume' : Volume) (block : ℕ) (result : Result (Unit {0}) Fault) → IsOpen T old volume →
+        IsUnnamed old volume block → WriteTimesDoes T old new volume volume' result → IsUnnamed new volume' block }
+    ensures reaped { (T : Types) (old new : StoreState) (volume volume' : Volume) (numbers : List ℕ) (block : ℕ) (result : Result (Unit {0}) Fault) →
+        IsOpen T old volume → IsUnnamed old volume block → ReapDoes T old new volume volume' numbers result → IsUnnamed new volume' block }
+{
+    layout_is_known();
+    leaves_are_side_by_side();
 }

@@ -1,0 +1,43 @@
+-- An inode that has no number, on an open volume.
+use Rattle.std.proofs.Common.{◌≡◌, ℕ, sym, subst}
+use Rattle.xn_model.specs.Types.{Types}
+use Rattle.xn_model.specs.Lives.{StoreState}
+use Rattle.treefs_lookup.specs.Readable.{readable}
+use Rattle.treefs_edits.specs.declared.tree.Tree.{Tree}
+use Rattle.treefs.specs.declared.volume.Volume.{Volume}
+use Rattle.treefs_values.specs.Kinds.{kinds}
+use Rattle.treefs_laws.specs.Open.{IsOpen}
+use Rattle.treefs_laws.specs.Unnamed.{IsUnnamed}
+use Rattle.treefs_laws.proofs.AsideTree.{IsAside}
+
+abbrev pub IsAsideIn : StoreState → Tree → ℕ → Type 0
+IsAsideIn state tree c = IsAside tree.node_type tree.inode_type tree.top c (kinds state tree.fs.number) (readable state tree.fs.number)
+
+pub unnamed_aside : (T : Types) (state : StoreState) (volume : Volume) (c : ℕ) → IsOpen T state volume → IsUnnamed state volume c →
+    IsAsideIn state volume.tree c
+unnamed_aside T state volume c is_open unnamed = record {
+  volume = is_open.kept.bytes;
+  there = unnamed.there;
+  no_root = λ z. unnamed.no_root (sym z);
+  is_block = record { typed = unnamed.typed; nodes = unnamed.nodes };
+  leaves = unnamed.leaves;
+  unled = unnamed.unled;
+}
+
+pub aside_unnamed : (state : StoreState) (volume : Volume) (c : ℕ) → IsAsideIn state volume.tree c → IsUnnamed state volume c
+aside_unnamed state volume c aside = record {
+  there = aside.there;
+  typed = aside.is_block.typed;
+  nodes = aside.is_block.nodes;
+  leaves = aside.leaves;
+  no_root = λ z. aside.no_root (sym z);
+  unled = aside.unled;
+}
+
+abbrev pub KeepsAside : Tree → StoreState → StoreState → Type 0
+KeepsAside tree old new = (c : ℕ) → IsAsideIn old tree c → IsAsideIn new tree c
+
+pub unnamed_kept : (T : Types) (old new : StoreState) (volume volume' : Volume) → IsOpen T old volume → volume'.tree ≡ volume.tree →
+    KeepsAside volume.tree old new → (c : ℕ) → IsUnnamed old volume c → IsUnnamed new volume' c
+unnamed_kept T old new volume volume' is_open same keeps c unnamed =
+    aside_unnamed new volume' c (subst (λ tree. IsAsideIn new tree c) (sym same) (keeps c (unnamed_aside T old volume c is_open unnamed)))
