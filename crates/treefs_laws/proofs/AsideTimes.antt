@@ -1,5 +1,5 @@
 -- Times that were only touched are written: an inode that has no number has none still.
-use Rattle.std.proofs.Common.{ℕ, Result, sym, subst}
+use Rattle.std.proofs.Common.{◌≡◌, Result, subst}
 use Rattle.xn_model.specs.Types.{Types}
 use Rattle.xn_model.specs.Lives.{StoreState}
 use Rattle.treefs_lookup.specs.Readable.{readable}
@@ -10,27 +10,18 @@ use Rattle.treefs.specs.declared.volume.Volume.{Volume}
 use Rattle.treefs_values.specs.KnownLayout.{IsLayout}
 use Rattle.treefs_values.specs.Kinds.{kinds}
 use Rattle.treefs_values.specs.Volumes.{IsVolume}
+use Rattle.treefs_laws.specs.Kept.{files_in}
 use Rattle.treefs_laws.specs.Open.{IsOpen}
-use Rattle.treefs_laws.specs.Unnamed.{IsUnnamed}
-use Rattle.treefs_laws.proofs.AsideTree.{IsAside, steady_aside}
-use Rattle.treefs_laws.proofs.AsideVolume.{KeepsAside, unnamed_kept}
-use Rattle.treefs_laws.proofs.TimesWritten.{IsSteady, times_said, times_steady}
+use Rattle.treefs_laws.specs.Unnamed.{KeepsUnnamed}
+use Rattle.treefs_laws.proofs.AsideVolume.{steady_keeps, unnamed_kept}
+use Rattle.treefs_laws.proofs.TimesWritten.{times_said, times_steady}
 
-module _ (T : Types) (tree : Tree) (known : IsLayout) (old new : StoreState) (steady : IsSteady T tree known old new)
-    (volume : IsVolume tree.node_type tree.inode_type (kinds new tree.fs.number) (readable new tree.fs.number) tree.top) where
-  abbrev Volume_with : (ℕ → ℕ) → Type 0
-  Volume_with types = IsVolume tree.node_type tree.inode_type types (readable new tree.fs.number) tree.top
-
-  steady_keeps : KeepsAside tree old new
-  steady_keeps c a = subst (λ types. IsAside tree.node_type tree.inode_type tree.top c types (readable new tree.fs.number)) (sym steady.0)
-      (steady_aside tree.node_type tree.inode_type tree.top c (kinds old tree.fs.number) (readable old tree.fs.number) (readable new tree.fs.number) a steady.1
-      (subst Volume_with steady.0 volume))
-
-pub times_unnamed : (T : Types) (known : IsLayout) (old new : StoreState) (volume volume' : Volume) (block : ℕ) (result : Result (Unit {0}) Fault) →
-    IsOpen T old volume → IsUnnamed old volume block → WriteTimesDoes T old new volume volume' result → IsUnnamed new volume' block
-times_unnamed T known old new volume volume' block result is_open unnamed does =
+pub times_keep : (T : Types) (known : IsLayout) (old new : StoreState) (volume volume' : Volume) (result : Result (Unit {0}) Fault) → IsOpen T old volume →
+    WriteTimesDoes T old new volume volume' result →
+    IsOpen T new volume' × (files_in new volume' ≡ files_in old volume) × KeepsUnnamed old new volume volume'
+times_keep T known old new volume volume' result is_open does =
     let steady = times_steady T old new volume volume' known is_open result does in
-    let then_open = (times_said T old new volume volume' known is_open result does).0 in
+    let said = times_said T old new volume volume' known is_open result does in
     let bytes : IsVolume volume.tree.node_type volume.tree.inode_type (kinds new volume.tree.fs.number) (readable new volume.tree.fs.number) volume.tree.top =
-    subst (λ (t : Tree). IsVolume t.node_type t.inode_type (kinds new t.fs.number) (readable new t.fs.number) t.top) steady.1 then_open.kept.bytes in
-    unnamed_kept T old new volume volume' is_open steady.1 (steady_keeps T volume.tree known old new steady.0 bytes) block unnamed
+    subst (λ (t : Tree). IsVolume t.node_type t.inode_type (kinds new t.fs.number) (readable new t.fs.number) t.top) steady.1 (said.0).kept.bytes in
+    (said.0, said.1, unnamed_kept T old new volume volume' is_open steady.1 (steady_keeps volume.tree old new steady.0.0 steady.0.1 bytes))

@@ -1,14 +1,16 @@
 -- An inode that has no number, on an open volume.
-use Rattle.std.proofs.Common.{◌≡◌, ℕ, sym, subst}
+use Rattle.std.proofs.Common.{◌≡◌, ℕ, List, refl, sym, subst}
 use Rattle.xn_model.specs.Types.{Types}
 use Rattle.xn_model.specs.Lives.{StoreState}
 use Rattle.treefs_lookup.specs.Readable.{readable}
 use Rattle.treefs_edits.specs.declared.tree.Tree.{Tree}
 use Rattle.treefs.specs.declared.volume.Volume.{Volume}
 use Rattle.treefs_values.specs.Kinds.{kinds}
+use Rattle.treefs_values.specs.Volumes.{IsVolume}
+use Rattle.treefs_values.specs.Ways.{SamePointers}
 use Rattle.treefs_laws.specs.Open.{IsOpen}
-use Rattle.treefs_laws.specs.Unnamed.{IsUnnamed}
-use Rattle.treefs_laws.proofs.AsideTree.{IsAside}
+use Rattle.treefs_laws.specs.Unnamed.{IsUnnamed, KeepsUnnamed}
+use Rattle.treefs_laws.proofs.AsideTree.{IsAside, steady_aside}
 
 abbrev pub IsAsideIn : StoreState → Tree → ℕ → Type 0
 IsAsideIn state tree c = IsAside tree.node_type tree.inode_type tree.top c (kinds state tree.fs.number) (readable state tree.fs.number)
@@ -38,6 +40,25 @@ abbrev pub KeepsAside : Tree → StoreState → StoreState → Type 0
 KeepsAside tree old new = (c : ℕ) → IsAsideIn old tree c → IsAsideIn new tree c
 
 pub unnamed_kept : (T : Types) (old new : StoreState) (volume volume' : Volume) → IsOpen T old volume → volume'.tree ≡ volume.tree →
-    KeepsAside volume.tree old new → (c : ℕ) → IsUnnamed old volume c → IsUnnamed new volume' c
+    KeepsAside volume.tree old new → KeepsUnnamed old new volume volume'
 unnamed_kept T old new volume volume' is_open same keeps c unnamed =
     aside_unnamed new volume' c (subst (λ tree. IsAsideIn new tree c) (sym same) (keeps c (unnamed_aside T old volume c is_open unnamed)))
+
+-- where no type changes, and no pointer
+module _ (tree : Tree) (old new : StoreState) (types : kinds new tree.fs.number ≡ kinds old tree.fs.number) where
+  abbrev As : ℕ → (ℕ → ℕ) → (ℕ → List ℕ) → Type 0
+  As c type content = IsAside tree.node_type tree.inode_type tree.top c type content
+
+  pub steady_keeps : SamePointers tree.node_type tree.inode_type (kinds old tree.fs.number) (readable old tree.fs.number) (readable new tree.fs.number) →
+      IsVolume tree.node_type tree.inode_type (kinds new tree.fs.number) (readable new tree.fs.number) tree.top → KeepsAside tree old new
+  steady_keeps keeps volume c a = subst (λ type. As c type (readable new tree.fs.number)) (sym types)
+      (steady_aside tree.node_type tree.inode_type tree.top c (kinds old tree.fs.number) (readable old tree.fs.number) (readable new tree.fs.number) a keeps
+      (subst (λ type. IsVolume tree.node_type tree.inode_type type (readable new tree.fs.number) tree.top) types volume))
+
+  pub same_keeps : readable new tree.fs.number ≡ readable old tree.fs.number → KeepsAside tree old new
+  same_keeps reads c a =
+      subst (λ type. As c type (readable new tree.fs.number)) (sym types) (subst (λ content. As c (kinds old tree.fs.number) content) (sym reads) a)
+
+pub read_keeps : (T : Types) (old new : StoreState) (volume : Volume) → IsOpen T old volume → kinds new volume.tree.fs.number ≡ kinds old volume.tree.fs.number →
+    readable new volume.tree.fs.number ≡ readable old volume.tree.fs.number → KeepsUnnamed old new volume volume
+read_keeps T old new volume is_open types reads = unnamed_kept T old new volume volume is_open refl (same_keeps volume.tree old new types reads)

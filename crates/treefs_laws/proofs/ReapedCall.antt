@@ -23,7 +23,7 @@ use Rattle.treefs_values.specs.KnownLayout.{IsLayout}
 use Rattle.treefs_laws.specs.Kept.{files_in}
 use Rattle.treefs_laws.specs.Open.{IsOpen}
 use Rattle.treefs_laws.specs.Orphans.{IsOrphan, IsReaped, WaitLess, without_orphans}
-use Rattle.treefs_laws.specs.Unnamed.{IsUnnamed}
+use Rattle.treefs_laws.specs.Unnamed.{KeepsUnnamed}
 use Rattle.treefs_laws.proofs.AsideVolume.{unnamed_kept}
 use Rattle.treefs_laws.proofs.OrphansFound.{orphan_here, orphan_is}
 use Rattle.treefs_laws.proofs.Planned.{ran_acts}
@@ -38,10 +38,6 @@ with_memory volume memory = record volume { memory = memory }
 module _ (T : Types) (known : IsLayout)
     (beside : (i j o : ℕ) (holder : List ℕ) → j < leaf_count → i ≤ j → j ≤ last_beside i → steps i ≡ o ∷ holder → steps j ≡ (o + 4 * (j - i)) ∷ holder)
     (numbers : List ℕ) where
-  -- an inode that has no number has none then
-  abbrev KeepsUnnamed : StoreState → StoreState → Volume → Volume → Type 0
-  KeepsUnnamed old new volume volume' = (block : ℕ) → IsUnnamed old volume block → IsUnnamed new volume' block
-
   -- the volume, and where its session stands
   abbrev Said : StoreState → StoreState → Volume → Volume → Type 0
   Said old new volume volume' = IsOpen T new volume' × IsReaped (Contains numbers) (files_in old volume) (files_in new volume')
@@ -292,14 +288,11 @@ module _ (T : Types) (known : IsLayout)
 
     pub reap_said : ReapDoes T old new volume volume' numbers result →
         IsOpen T new volume' × IsReaped (Contains numbers) (files_in old volume) (files_in new volume') × (volume'.tree ≡ volume.tree)
-        × (volume'.memory.clock ≡ volume.memory.clock)
-    reap_said does = let s = (call_said does).0 in (s.0, s.1, s.2, s.3)
+        × (volume'.memory.clock ≡ volume.memory.clock) × KeepsUnnamed old new volume volume'
+    reap_said does = let s = (call_said does).0 in (s.0, s.1, s.2, s.3, s.5)
 
     pub reap_waits : ReapDoes T old new volume volume' numbers result → WaitLess volume.memory.orphans volume'.memory.orphans (files_in new volume')
     reap_waits does = (call_said does).0.4
-
-    pub reap_unnamed : ReapDoes T old new volume volume' numbers result → KeepsUnnamed old new volume volume'
-    reap_unnamed does = (call_said does).0.5
 
     pub reap_done : ReapDoes T old new volume volume' numbers result → result ≡ Ok tt → files_in new volume' ≡ without_orphans numbers (files_in old volume)
     reap_done does done =

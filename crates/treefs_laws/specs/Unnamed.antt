@@ -1,5 +1,6 @@
 -- An inode that has no number.
---     IsUnnamed     nothing points to its block; those on the ways from it have their types
+--     IsUnnamed        nothing points to its block; those on the ways from it have their types
+--     KeepsUnnamed     one that had no number has none then
 use Rattle.std.specs.Prelude.{◌≡◌, ◌≢◌, ℕ, suc, ◌<◌, List, IsTrue}
 use Rattle.xn_model.specs.Lives.{StoreState}
 use Rattle.treefs_format.specs.Paths.{leaf_count}
@@ -20,3 +21,6 @@ pub record IsUnnamed (state : StoreState) (volume : Volume) (block : ℕ) : Type
   pub no_root : volume.tree.top ≢ block
   pub unled : (p o : ℕ) → IsTrue (has_pointer volume.tree.node_type volume.tree.inode_type (kinds state volume.tree.fs.number p) o) →
       pointed (readable state volume.tree.fs.number) p o ≢ block
+
+abbrev pub KeepsUnnamed : StoreState → StoreState → Volume → Volume → Type 0
+KeepsUnnamed old new volume volume' = (block : ℕ) → IsUnnamed old volume block → IsUnnamed new volume' block
