@@ -32,6 +32,7 @@ module _ (T : Types) (s s' : StoreState) (v v' : Volume) where
   leaves_before leaves = record {
     is_open = leaves.1;
     files = leaves.2;
+    unnamed = leaves.3;
     tree = ap (λ (w : Volume). w.tree) leaves.0;
     clock =
         ap (λ (w : Volume). w.memory.clock) leaves.0;

@@ -12,7 +12,7 @@ use Rattle.treefs_session.specs.Tries.{MakesRoom, Tries, TriesOnce, as_answer, i
 use Rattle.treefs_session_laws.specs.Before.{IsAsBefore}
 
 pub before_same : (T : Types) (state : StoreState) (volume : Volume) → IsOpen T state volume → IsAsBefore T state state volume volume
-before_same T state volume is_open = record { is_open = is_open; files = refl; tree = refl; clock = refl }
+before_same T state volume is_open = record { is_open = is_open; files = refl; tree = refl; clock = refl; unnamed = λ block unnamed. unnamed }
 
 pub before_then : (T : Types) (old middle new : StoreState) (volume between volume' : Volume) → IsAsBefore T old middle volume between →
     IsAsBefore T middle new between volume' → IsAsBefore T old new volume volume'
@@ -21,6 +21,7 @@ before_then T old middle new volume between volume' first next = record {
   files = next.files ∙ first.files;
   tree = next.tree ∙ first.tree;
   clock = next.clock ∙ first.clock;
+  unnamed = λ block unnamed. next.unnamed block (first.unnamed block unnamed);
 }
 
 pub full_is : (fault : Fault) → is_full fault ≡ true → fault ≡ Full

@@ -16,3 +16,5 @@ mod Sized
 mod Pieces
 mod Rewriting
 mod Written
+mod Begun
+mod GivenUp
