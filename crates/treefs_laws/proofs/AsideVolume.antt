@@ -1,5 +1,5 @@
 -- An inode that has no number, on an open volume.
-use Rattle.std.proofs.Common.{◌≡◌, ℕ, List, refl, sym, subst}
+use Rattle.std.proofs.Common.{◌≡◌, ℕ, List, refl, sym, ◌∙◌, ap, subst}
 use Rattle.xn_model.specs.Types.{Types}
 use Rattle.xn_model.specs.Lives.{StoreState}
 use Rattle.treefs_lookup.specs.Readable.{readable}
@@ -36,28 +36,43 @@ aside_unnamed state volume c aside = record {
   unled = aside.unled;
 }
 
+abbrev pub StaysAside : Tree → StoreState → StoreState → Type 0
+StaysAside tree old new = (c : ℕ) → IsAsideIn old tree c → IsAsideIn new tree c
+
+-- and its block has the bytes that it had
 abbrev pub KeepsAside : Tree → StoreState → StoreState → Type 0
-KeepsAside tree old new = (c : ℕ) → IsAsideIn old tree c → IsAsideIn new tree c
+KeepsAside tree old new = (c : ℕ) → IsAsideIn old tree c → IsAsideIn new tree c × (readable new tree.fs.number c ≡ readable old tree.fs.number c)
 
 pub unnamed_kept : (T : Types) (old new : StoreState) (volume volume' : Volume) → IsOpen T old volume → volume'.tree ≡ volume.tree →
     KeepsAside volume.tree old new → KeepsUnnamed old new volume volume'
 unnamed_kept T old new volume volume' is_open same keeps c unnamed =
-    aside_unnamed new volume' c (subst (λ tree. IsAsideIn new tree c) (sym same) (keeps c (unnamed_aside T old volume c is_open unnamed)))
+    let kept = keeps c (unnamed_aside T old volume c is_open unnamed) in (
+      aside_unnamed new volume' c (subst (λ tree. IsAsideIn new tree c) (sym same) kept.0),
+      subst (λ (tree : Tree). readable new tree.fs.number c ≡ readable old volume.tree.fs.number c) (sym same) kept.1,
+    )
+
+pub unnamed_then : (old middle new : StoreState) (v w x : Volume) → KeepsUnnamed old middle v w → KeepsUnnamed middle new w x → KeepsUnnamed old new v x
+unnamed_then old middle new v w x first second block unnamed =
+    let one = first block unnamed in
+    let two = second block one.0 in
+    (two.0, two.1 ∙ one.1)
 
 -- where no type changes, and no pointer
 module _ (tree : Tree) (old new : StoreState) (types : kinds new tree.fs.number ≡ kinds old tree.fs.number) where
   abbrev As : ℕ → (ℕ → ℕ) → (ℕ → List ℕ) → Type 0
   As c type content = IsAside tree.node_type tree.inode_type tree.top c type content
 
-  pub steady_keeps : SamePointers tree.node_type tree.inode_type (kinds old tree.fs.number) (readable old tree.fs.number) (readable new tree.fs.number) →
-      IsVolume tree.node_type tree.inode_type (kinds new tree.fs.number) (readable new tree.fs.number) tree.top → KeepsAside tree old new
-  steady_keeps keeps volume c a = subst (λ type. As c type (readable new tree.fs.number)) (sym types)
+  pub steady_stays : SamePointers tree.node_type tree.inode_type (kinds old tree.fs.number) (readable old tree.fs.number) (readable new tree.fs.number) →
+      IsVolume tree.node_type tree.inode_type (kinds new tree.fs.number) (readable new tree.fs.number) tree.top → StaysAside tree old new
+  steady_stays keeps volume c a = subst (λ type. As c type (readable new tree.fs.number)) (sym types)
       (steady_aside tree.node_type tree.inode_type tree.top c (kinds old tree.fs.number) (readable old tree.fs.number) (readable new tree.fs.number) a keeps
       (subst (λ type. IsVolume tree.node_type tree.inode_type type (readable new tree.fs.number) tree.top) types volume))
 
   pub same_keeps : readable new tree.fs.number ≡ readable old tree.fs.number → KeepsAside tree old new
-  same_keeps reads c a =
-      subst (λ type. As c type (readable new tree.fs.number)) (sym types) (subst (λ content. As c (kinds old tree.fs.number) content) (sym reads) a)
+  same_keeps reads c a = (
+    subst (λ type. As c type (readable new tree.fs.number)) (sym types) (subst (λ content. As c (kinds old tree.fs.number) content) (sym reads) a),
+    ap (λ m. m c) reads,
+  )
 
 pub read_keeps : (T : Types) (old new : StoreState) (volume : Volume) → IsOpen T old volume → kinds new volume.tree.fs.number ≡ kinds old volume.tree.fs.number →
     readable new volume.tree.fs.number ≡ readable old volume.tree.fs.number → KeepsUnnamed old new volume volume

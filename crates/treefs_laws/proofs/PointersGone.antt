@@ -379,6 +379,18 @@ module _ (node inode top : ℕ) (type type' : ℕ → ℕ) (old new : ℕ → Li
         (leaf_block new a i ≡ leaf_block old a i) × (type' (leaf_block old a i) ≡ type (leaf_block old a i))
     unled_leaf = leaf_left a a_is a_kept
 
+    not_holder : a ≢ r → a ≢ holder
+    not_holder other = by q way_to holder_some
+      where
+        by : (q : List ℕ) → IsHolderWay q → at r q ≢ 0 → a ≢ at r q
+        by [] to some is = other is
+        by (o ∷ os) (inl none) some is = absurd (cc none)
+        by (o ∷ os) (inr (l, way)) some is =
+            unled (at r os) o (way_pointer node inode top type old v r r_is (suc l) o os way (λ z. some (nowhere old (at r os) o z))) (sym is)
+
+    pub unled_bytes : a ≢ r → new a ≡ old a
+    unled_bytes other = elim a_kept.1 [ inl here ↦ absurd (not_holder other here) | inr bytes ↦ bytes ]
+
   -- It is a volume still
 
   now_at : (m k : ℕ) (os : List ℕ) → IsWay os k → block_at new (block_numbered new top m) os ≢ 0 →

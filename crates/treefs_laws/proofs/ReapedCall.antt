@@ -24,7 +24,7 @@ use Rattle.treefs_laws.specs.Kept.{files_in}
 use Rattle.treefs_laws.specs.Open.{IsOpen}
 use Rattle.treefs_laws.specs.Orphans.{IsOrphan, IsReaped, WaitLess, without_orphans}
 use Rattle.treefs_laws.specs.Unnamed.{KeepsUnnamed}
-use Rattle.treefs_laws.proofs.AsideVolume.{unnamed_kept}
+use Rattle.treefs_laws.proofs.AsideVolume.{unnamed_kept, unnamed_then}
 use Rattle.treefs_laws.proofs.OrphansFound.{orphan_here, orphan_is}
 use Rattle.treefs_laws.proofs.Planned.{ran_acts}
 use Rattle.treefs_laws.proofs.ReapedFiles.{among_or_not, gone_stays, orphan_then, reaped_then, reaped_without, unseen_orphan}
@@ -67,7 +67,7 @@ module _ (T : Types) (known : IsLayout)
         | inr none ↦ inr (gone_stays (Contains numbers) (among_or_not numbers) (files_in middle w) (files_in new x) second.1 n none)
       ],
     ),
-    λ block unnamed. second.5 block (first.5 block unnamed),
+    unnamed_then old middle new v w x first.5 second.5,
   )
 
   module _ (old new : StoreState) (volume : Volume) (is_open : IsOpen T old volume) where

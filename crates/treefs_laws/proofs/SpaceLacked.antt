@@ -186,4 +186,4 @@ module _ (T : Types) (state state' : StoreState) (volume : Volume) (fault : Faul
   pub begin_leaves : IsOpen T state volume → (kind : Kind) (attributes : Attributes) (head : List ℕ) →
       BeginDoes T state state' volume kind attributes head (Err fault) → LeavesFiles T state state' volume volume
   begin_leaves is_open kind attributes head does =
-      subst (λ s. LeavesFiles T state s volume volume) (sym (begin_refused kind attributes head does)) (refl, is_open, refl, λ block unnamed. unnamed)
+      subst (λ s. LeavesFiles T state s volume volume) (sym (begin_refused kind attributes head does)) (refl, is_open, refl, λ block unnamed. (unnamed, refl))

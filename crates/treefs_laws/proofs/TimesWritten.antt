@@ -2,12 +2,12 @@
 use Rattle.std.proofs.Common.{◌≡◌, ◌≢◌, ◌⊎◌, ℕ, Bool, true, false, List, [], ◌∷◌, Option, None, Some, Result, Ok, Err, refl, sym, ◌∙◌, ap, inl, inr, subst, if◌then◌else◌}
 use Rattle.std.specs.Prelude.{All, IsTrue, MatchResult, fold, nat_lt, option_map}
 use Rattle.std.specs.Option.{ok_or}
-use Rattle.std.proofs.lemmas.Bool.{cases_eq}
+use Rattle.std.proofs.lemmas.Bool.{cases_eq, ne_eqb}
 use Rattle.std.proofs.lemmas.List.Elements.{All-cons, All-head, All-nil, All-tail}
 use Rattle.xn_model.specs.Types.{Types}
 use Rattle.xn_model.specs.Lives.{StoreState}
 use Rattle.xn_model.specs.PendingIn.{pending_in_of}
-use Rattle.xn_model.specs.Calls.{propose_of}
+use Rattle.xn_model.specs.Calls.{patched, propose_of}
 use Rattle.xn_model.specs.Results.{Gives}
 use Rattle.store_types.specs.declared.refusal.Refusal.{Refusal}
 use Rattle.treefs_format.specs.Fields.{IsInRange, changed, fields_of}
@@ -43,6 +43,8 @@ use Rattle.treefs_values.proofs.ForCallers.{IsAt, IsFound, acts_read, changes_ke
 use Rattle.treefs_laws.specs.Kept.{IsKept, files_in}
 use Rattle.treefs_laws.specs.Open.{IsOpen}
 use Rattle.treefs_laws.specs.Seen.{AreTimes, AreTouchedOnce, IsSession, seen_files, seen_inode, with_times}
+use Rattle.treefs_laws.proofs.PointersGone.{IsUnled}
+use Rattle.treefs_laws.proofs.WaysApart.{numbered_led}
 use Rattle.treefs_laws.proofs.Planned.{ran_acts, same_done}
 use Rattle.treefs_laws.proofs.Seeing.{seen_changed, unchanged}
 use Rattle.treefs_laws.proofs.StillOpen.{ran_root}
@@ -145,18 +147,28 @@ module _ (T : Types) (tree : Tree) (known : IsLayout) where
   abbrev files_at : StoreState → Files
   files_at s = files_of (readable s fs) top
 
-  -- no type changes, and no pointer
+  abbrev pub Unled : StoreState → ℕ → Type 0
+  Unled s b = (b ≢ 0) × (b ≢ top) × IsUnled tree.node_type tree.inode_type (kinds s fs) (readable s fs) b
+
+  -- no type changes, and no pointer, and no block to which nothing points
   abbrev pub IsSteady : StoreState → StoreState → Type 0
   IsSteady old new = (kinds new fs ≡ kinds old fs) × SamePointers tree.node_type tree.inode_type (kinds old fs) (readable old fs) (readable new fs)
+      × ((b : ℕ) → Unled old b → readable new fs b ≡ readable old fs b)
 
   steady_same : (s : StoreState) → IsSteady s s
-  steady_same s = (refl, λ p o has. refl)
+  steady_same s = (refl, λ p o has. refl, λ b unled. refl)
 
   steady_then : (old middle new : StoreState) → IsSteady old middle → IsSteady middle new → IsSteady old new
   steady_then old middle new first second = (
     second.0 ∙ first.0,
     λ p o has. second.1 p o (subst (λ t. IsTrue (has_pointer tree.node_type tree.inode_type (t p) o)) (sym first.0) has) ∙ first.1 p o has,
+    λ b unled. second.2 b (unled.0, unled.1, unled_then b unled.2) ∙ first.2 b unled,
   )
+    where
+      unled_then : (b : ℕ) → IsUnled tree.node_type tree.inode_type (kinds old fs) (readable old fs) b →
+          IsUnled tree.node_type tree.inode_type (kinds middle fs) (readable middle fs) b
+      unled_then b unled p o has same =
+          let was = subst (λ t. IsTrue (has_pointer tree.node_type tree.inode_type (t p) o)) first.0 has in unled p o was (sym (first.1 p o was) ∙ same)
 
   -- the times of one inode are written
   module _ (touch : Touched) (rest : List Touched) (old new : StoreState) (here : At old) (fit : AreTimes touch.times)
@@ -185,6 +197,12 @@ module _ (T : Types) (tree : Tree) (known : IsLayout) where
           changes_keep tree.node_type tree.inode_type top (kinds old fs) (readable old fs) here.volume known touch.number is.number is.there
           (time_parts (Some touch.times)) (times_fine (fields_of (readable old fs c)) touch.times fit) None
 
+      -- a block to which nothing points is no inode's
+      others : (b : ℕ) → Unled old b → written act (readable old fs) b ≡ readable old fs b
+      others b unled =
+          let other = numbered_led tree.node_type tree.inode_type top (kinds old fs) (readable old fs) here.volume b unled.0 unled.1 unled.2 touch.number in
+          ap (λ t. if t then patched (readable old fs b) act.edit.patches else readable old fs b) (ne_eqb b c (λ same. other (sym same)))
+
       keep : All KeepsBlocks (act ∷ [])
       keep = All-cons KeepsBlocks act [] refl (All-nil KeepsBlocks)
 
@@ -198,7 +216,11 @@ module _ (T : Types) (tree : Tree) (known : IsLayout) where
                   (subst (λ m. IsVolume tree.node_type tree.inode_type (kinds old fs) m top) (sym read.1) made.0);
             },
             ap (λ m. seen_files rest (files_of m top)) read.1 ∙ (ap (seen_files rest) made.1 ∙ written_seen touch rest (files_at old) lacks),
-            (read.2, subst (SamePointers tree.node_type tree.inode_type (kinds old fs) (readable old fs)) (sym read.1) keeps),
+            (
+              read.2,
+              subst (SamePointers tree.node_type tree.inode_type (kinds old fs) (readable old fs)) (sym read.1) keeps,
+              λ b unled. ap (λ m. m b) read.1 ∙ others b unled,
+            ),
           )
 
       abbrev plan : AttributesPlan

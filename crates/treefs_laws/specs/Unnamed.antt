@@ -1,6 +1,6 @@
 -- An inode that has no number.
 --     IsUnnamed        nothing points to its block; those on the ways from it have their types
---     KeepsUnnamed     one that had no number has none then
+--     KeepsUnnamed     one that had no number has none then, and its block the bytes that it had
 use Rattle.std.specs.Prelude.{◌≡◌, ◌≢◌, ℕ, suc, ◌<◌, List, IsTrue}
 use Rattle.xn_model.specs.Lives.{StoreState}
 use Rattle.treefs_format.specs.Paths.{leaf_count}
@@ -23,4 +23,5 @@ pub record IsUnnamed (state : StoreState) (volume : Volume) (block : ℕ) : Type
       pointed (readable state volume.tree.fs.number) p o ≢ block
 
 abbrev pub KeepsUnnamed : StoreState → StoreState → Volume → Volume → Type 0
-KeepsUnnamed old new volume volume' = (block : ℕ) → IsUnnamed old volume block → IsUnnamed new volume' block
+KeepsUnnamed old new volume volume' = (block : ℕ) → IsUnnamed old volume block →
+    IsUnnamed new volume' block × (readable new volume'.tree.fs.number block ≡ readable old volume.tree.fs.number block)
