@@ -101,7 +101,7 @@ module _ (T : Types) (known : AreKnown T) (held : List ℕ) where
     }
 
     frees : (old new : StoreState) (v v' : Volume) → Holds old v → Unheld old new v v' → IsBeside old new v v'
-    frees old new v v' holds is = record { is_open = is.is_open; files = is.files; clock = is.clock; unnamed = is.unnamed c holds.1 }
+    frees old new v v' holds is = record { is_open = is.is_open; files = is.files; clock = is.clock; unnamed = (is.unnamed c holds.1).0 }
 
     beside_same : (s : StoreState) (v : Volume) → Holds s v → IsBeside s s v v
     beside_same s v holds = frees s s v v holds (as_before T known held s s v v (before_same T s v holds.0))

@@ -16,7 +16,7 @@ use Rattle.treefs_laws.specs.Kept.{files_in}
 use Rattle.treefs_laws.specs.Open.{IsOpen}
 use Rattle.treefs_laws.specs.Orphans.{IsOrphan, IsReaped, WaitLess, without_orphans}
 use Rattle.treefs_laws.specs.Unnamed.{KeepsUnnamed}
-use Rattle.treefs_laws.proofs.ForCallers.{among_or_not, orphan_then, reaped_same, reaped_then, reaped_weaker, reaped_without, without_gone}
+use Rattle.treefs_laws.proofs.ForCallers.{among_or_not, orphan_then, reaped_same, reaped_then, reaped_weaker, reaped_without, unnamed_then, without_gone}
 use Rattle.treefs_session.specs.Tries.{MakesRoom, Tries, most_tries}
 use Rattle.treefs_session_laws.specs.Before.{IsAsBefore, IsAsBeforeButOrphans, IsUnheld}
 use Rattle.treefs_session_laws.proofs.Done.{before_same, before_then}
@@ -80,7 +80,7 @@ module _ (T : Types) where
         (files_in middle w) (files_in new x) second.files);
     tree = second.tree ∙ first.tree;
     clock = second.clock ∙ first.clock;
-    unnamed = λ block unnamed. second.unnamed block (first.unnamed block unnamed);
+    unnamed = unnamed_then old middle new v w x first.unnamed second.unnamed;
     waiting = λ n. (
       λ has. (first.waiting n).0 ((second.waiting n).0 has),
       λ has. elim ((first.waiting n).1 has) [

@@ -20,7 +20,7 @@ use Rattle.treefs_laws.specs.Kept.{files_in}
 use Rattle.treefs_laws.specs.Open.{IsOpen}
 use Rattle.treefs_laws.specs.Orphans.{IsReaped, without_orphans}
 use Rattle.treefs_laws.specs.Unnamed.{KeepsUnnamed}
-use Rattle.treefs_laws.proofs.ForCallers.{among_or_not, reaped_same, reaped_then, reaped_weaker, reaped_without, without_gone}
+use Rattle.treefs_laws.proofs.ForCallers.{among_or_not, reaped_same, reaped_then, reaped_weaker, reaped_without, unnamed_then, without_gone}
 use Rattle.treefs_session.specs.Freeing.{FreesAndTries, MakesFreely, ReapsAndWrites, Reaps, Syncs, Writes, unheld}
 use Rattle.treefs_session.specs.Tries.{MakesRoom, Tries, most_tries}
 use Rattle.treefs_session_laws.specs.Before.{IsAsBefore, IsAsBeforeButOrphans, IsUnheld}
@@ -69,7 +69,7 @@ module _ (T : Types) (Among : ℕ → Type 0) (tells : (n : ℕ) → Among n ⊎
     files = reaped_then Among tells (files_in old v) (files_in middle w) (files_in new x) first.files second.files;
     tree = second.tree ∙ first.tree;
     clock = second.clock ∙ first.clock;
-    unnamed = λ block unnamed. second.unnamed block (first.unnamed block unnamed);
+    unnamed = unnamed_then old middle new v w x first.unnamed second.unnamed;
   }
 
 -- What is told of the calls below
@@ -191,7 +191,7 @@ module _ (T : Types) (known : AreKnown T) where
       files = reaped_then (IsUnheld held) (held_or_not held) (files_in old v) (files_in middle w) (files_in new x) first.files second.files;
       tree = second.tree ∙ first.tree;
       clock = second.clock ∙ first.clock;
-      unnamed = λ block unnamed. second.unnamed block (first.unnamed block unnamed);
+      unnamed = unnamed_then old middle new v w x first.unnamed second.unnamed;
     }
 
     reaps_and_writes : (old new : StoreState) (v v' : Volume) (result : Result (Unit {0}) Fault) → IsOpen T old v →

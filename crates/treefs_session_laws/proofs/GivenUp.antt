@@ -47,7 +47,7 @@ module _ (T : Types) (known : AreKnown T) (c : ℕ)
   still_then old middle new v w x first second = (same_then old middle new v w x first.0 second.0, second.1)
 
   still_before : (old new : StoreState) (v v' : Volume) → Holds old v → IsAsBefore T old new v v' → IsStill old new v v'
-  still_before old new v v' holds is = (from_before old new v v' is, is.unnamed c holds.1)
+  still_before old new v v' holds is = (from_before old new v v' is, (is.unnamed c holds.1).0)
 
   still_same : (s : StoreState) (v : Volume) → Holds s v → IsStill s s v v
   still_same s v holds = still_before s s v v holds (before_same T s v holds.0)

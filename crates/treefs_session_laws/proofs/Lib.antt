@@ -18,3 +18,5 @@ mod Rewriting
 mod Written
 mod Begun
 mod GivenUp
+mod Naming
+mod Put

@@ -1,11 +1,13 @@
-// Laws of the parts of a session's puts: an inode is begun, bytes are written into it, and where it can't get a name it is given up.
+// Laws of a session's puts and of their parts: an inode is begun, bytes are written into it, and it gets a name, or where it can't it is given up.
 
 ghost use Rattle.std.specs.Prelude.{◌≡◌, ◌≢◌, ◌<◌, ◌≤◌, ℕ, All, Bool, Err, List, Ok, Result, length};
 ghost use Rattle.xn_model.specs.Types.{Types};
 ghost use Rattle.xn_model.specs.Lives.{StoreState};
 ghost use Rattle.treefs_format.specs.declared.kind.Kind.{Kind};
 ghost use Rattle.treefs_format.specs.declared.kind.Kind.TheVariants as kinds;
+ghost use Rattle.treefs_model.specs.Files.{Files, Inode};
 ghost use Rattle.treefs_model.specs.declared.fault.Fault.{Fault};
+ghost use Rattle.treefs.specs.Committing.{CommitDoes};
 ghost use Rattle.treefs.specs.Creating.{BeginDoes};
 ghost use Rattle.treefs.specs.declared.attributes.Attributes.{Attributes};
 ghost use Rattle.treefs.specs.declared.volume.Volume.{Volume};
@@ -15,17 +17,25 @@ ghost use Rattle.treefs_laws.specs.Kept.{files_in};
 ghost use Rattle.treefs_laws.specs.Making.{FitsAttributes, new_inode};
 ghost use Rattle.treefs_laws.specs.Open.{IsOpen};
 ghost use Rattle.treefs_laws.specs.Orphans.{IsReaped};
+ghost use Rattle.treefs_laws.specs.Refusals.{IsOfStore};
 ghost use Rattle.treefs_laws.specs.Unnamed.{IsUnnamed};
 ghost use Rattle.treefs_session.specs.Freeing.{GivesUp, MakesFreely};
 ghost use Rattle.treefs_session.specs.Pieces.{WritesAll};
+ghost use Rattle.treefs_session.specs.Puts.{PutDoes};
+ghost use Rattle.treefs_session.specs.declared.put.Put.{Put};
 ghost use Rattle.treefs_session.specs.declared.calls.bytes.Target.TheVariants.{Begun};
 ghost use Rattle.treefs_session_laws.specs.Before.{IsAsBeforeButOrphans, IsUnheld};
+ghost use Rattle.treefs_session_laws.specs.Puts.{IsNamed};
 
 use crate::law::{flushes_change_no_file, making_room_changes_no_file};
-use treefs_laws::law::{begin_changes_no_file, write_times_changes_no_file};
+use treefs_laws::law::{
+    begin_changes_no_file, commit_names_an_inode, commit_replaces_a_name,
+    refused_commit_answers_the_files, write_times_changes_no_file,
+};
 use treefs_laws::orphans::{
     begun_writes_change_no_file, give_up_changes_no_file, reap_frees_orphans,
 };
+use treefs_laws::space::want_of_space_changes_no_file;
 
 /// An inode that a session begins says what was told, where it is a file or a symbolic link, and no number leads to it. Nothing changes but that inodes without
 /// links that aren't held may be freed, whether it is begun or not.
@@ -74,4 +84,71 @@ pub fn sessions_give_up_an_inode()
     write_times_changes_no_file();
     reap_frees_orphans();
     give_up_changes_no_file();
+}
+
+/// An inode that was begun gets a number and its first name from a session, on a volume that is as before but for orphans, and nothing else changes. Where it
+/// may replace, what had the name loses a link. Where that is refused, but by the store, all is as before but for orphans.
+pub fn sessions_name_an_inode()
+    ensures named { (T : Types) (held : List ℕ) (old new : StoreState) (volume volume' : Volume) (block : ℕ) (inode : Inode) (d : ℕ) (name : List ℕ)
+        (replace : Bool) (n : ℕ) → IsOpen T old volume → IsBegun old volume block inode → All (λ b. b < 256) name →
+        MakesFreely (λ s s' v v' result. CommitDoes T s s' v v' block d name replace result) T held old new volume volume' (Ok n) →
+        IsOpen T new volume' × (middle : StoreState) × (between : Volume) × IsAsBeforeButOrphans T held old middle volume between
+        × IsNamed (files_in middle between) (files_in new volume') volume.memory.clock d name replace n inode }
+    ensures refused { (T : Types) (held : List ℕ) (old new : StoreState) (volume volume' : Volume) (block d : ℕ) (name : List ℕ) (replace : Bool)
+        (fault : Fault) → IsOpen T old volume → (IsOfStore fault → ⊥) →
+        MakesFreely (λ s s' v v' result. CommitDoes T s s' v v' block d name replace result) T held old new volume volume' (Err fault) →
+        IsAsBeforeButOrphans T held old new volume volume' }
+{
+    making_room_changes_no_file();
+    flushes_change_no_file();
+    write_times_changes_no_file();
+    reap_frees_orphans();
+    refused_commit_answers_the_files();
+    want_of_space_changes_no_file();
+    commit_names_an_inode();
+    commit_replaces_a_name();
+    give_up_changes_no_file();
+}
+
+/// A file or a symbolic link that a session puts, and whose bytes all stand in the inode, has a number that was free, its name, these bytes and attributes.
+/// Where it may replace, what had the name loses a link. Nothing else changes, but that inodes without links that aren't held may be freed.
+pub fn sessions_put_small_files()
+    ensures { (T : Types) (held : List ℕ) (put : Put) (old new : StoreState) (volume volume' : Volume) (n : ℕ) → IsOpen T old volume →
+        FitsAttributes put.attributes → put.kind ≢ kinds.Directory → All (λ b. b < 256) put.bytes.now → length put.bytes.now ≤ 384 →
+        All (λ b. b < 256) put.name.now → PutDoes T held put old new volume volume' (Ok n) →
+        IsOpen T new volume' × (files : Files) × IsReaped (IsUnheld held) (files_in old volume) files
+        × IsNamed files (files_in new volume') volume.memory.clock put.directory put.name.now put.replace n
+        (new_inode volume.memory.clock put.attributes (new_content put.kind 0 put.bytes.now)) }
+{
+    making_room_changes_no_file();
+    flushes_change_no_file();
+    write_times_changes_no_file();
+    reap_frees_orphans();
+    begin_changes_no_file();
+    begun_writes_change_no_file();
+    give_up_changes_no_file();
+    refused_commit_answers_the_files();
+    want_of_space_changes_no_file();
+    commit_names_an_inode();
+    commit_replaces_a_name();
+}
+
+/// A put by a session that is refused, but by the store, changes no file, but that inodes without links that aren't held may be freed.
+pub fn refused_puts_change_no_file()
+    ensures { (T : Types) (held : List ℕ) (put : Put) (old new : StoreState) (volume volume' : Volume) (fault : Fault) → IsOpen T old volume →
+        FitsAttributes put.attributes → put.kind ≢ kinds.Directory → All (λ b. b < 256) put.bytes.now → (IsOfStore fault → ⊥) →
+        PutDoes T held put old new volume volume' (Err fault) →
+        IsOpen T new volume' × IsReaped (IsUnheld held) (files_in old volume) (files_in new volume') }
+{
+    making_room_changes_no_file();
+    flushes_change_no_file();
+    write_times_changes_no_file();
+    reap_frees_orphans();
+    begin_changes_no_file();
+    begun_writes_change_no_file();
+    give_up_changes_no_file();
+    refused_commit_answers_the_files();
+    want_of_space_changes_no_file();
+    commit_names_an_inode();
+    commit_replaces_a_name();
 }
