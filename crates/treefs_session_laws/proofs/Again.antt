@@ -28,7 +28,7 @@ lacks_is Cycle is = absurd (cc is)
 lacks_is (Kernel reason) is = absurd (cc is)
 
 module _ (T : Types) (s s' : StoreState) (v v' : Volume) where
-  leaves_before : LeavesFiles T s s' v v' → IsAsBefore T s s' v v'
+  pub leaves_before : LeavesFiles T s s' v v' → IsAsBefore T s s' v v'
   leaves_before leaves = record {
     is_open = leaves.1;
     files = leaves.2;

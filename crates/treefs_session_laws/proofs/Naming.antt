@@ -1,12 +1,13 @@
 -- A session gives an inode that was begun its first name.
-use Rattle.std.proofs.Common.{◌≡◌, ◌⊎◌, ℕ, ◌<◌, Bool, true, false, List, None, Result, Ok, Err, ◌∙◌, inl, inr, subst}
+use Rattle.std.proofs.Common.{◌≡◌, ◌≢◌, ◌⊎◌, ℕ, ◌<◌, Bool, true, false, List, None, Result, Ok, Err, ◌∙◌, inl, inr, subst}
 use Rattle.std.specs.Prelude.{All}
 use Rattle.xn_model.specs.Lives.{StoreState}
 use Rattle.xn_model.specs.Types.{Types}
+use Rattle.store_types.specs.declared.refusal.Refusal.{Refusal}
 use Rattle.treefs_model.specs.Changes.{replaced}
 use Rattle.treefs_model.specs.Files.{Inode}
 use Rattle.treefs_model.specs.declared.fault.Fault.{Fault}
-use Rattle.treefs_model.specs.declared.fault.Fault.TheVariants.{Full}
+use Rattle.treefs_model.specs.declared.fault.Fault.TheVariants.{Full, Kernel}
 use Rattle.treefs_lookup.specs.Readable.{readable}
 use Rattle.treefs.specs.Committing.{CommitDoes}
 use Rattle.treefs.specs.declared.volume.Volume.{Volume}
@@ -20,7 +21,7 @@ use Rattle.treefs_laws.specs.Unnamed.{IsUnnamed}
 use Rattle.treefs_session.specs.Freeing.{MakesFreely}
 use Rattle.treefs_session_laws.specs.Before.{IsAsBefore, IsAsBeforeButOrphans}
 use Rattle.treefs_session_laws.specs.Puts.{IsNamed}
-use Rattle.treefs_session_laws.proofs.Again.{again_before}
+use Rattle.treefs_session_laws.proofs.Again.{again_before, leaves_before}
 use Rattle.treefs_session_laws.proofs.Freed.{AreKnown, as_before, made_freely, unheld_then}
 use Rattle.treefs_session_laws.proofs.Kept.{made_told}
 use Rattle.treefs_session_laws.proofs.Names.{full_before, not_of_store}
@@ -107,9 +108,9 @@ module _ (T : Types) (known : AreKnown T) (commits : AreCommits T) (held : List 
       (still_begun old last.0 v last.1 block inode begun kept.0 kept.1) wide last.3 in
       (named.0, last.0, last.1, before, subst (λ t. IsNamed (files_in last.0 last.1) (files_in new v') t d name replace n inode) clock named.1)
 
-  -- one that the store doesn't refuse leaves all as it was
+  -- one that the store doesn't refuse leaves a volume as before
   abbrev Other : Fault → Type 0
-  Other fault = IsOfStore fault → ⊥
+  Other fault = (reason : Refusal) → fault ≢ Kernel reason
 
   unmade : (old new : StoreState) (v v' : Volume) (fault : Fault) → IsOpen T old v → Other fault → Commits old new v v' (Err fault) →
       IsAsBeforeButOrphans T held old new v v'
@@ -117,9 +118,11 @@ module _ (T : Types) (known : AreKnown T) (commits : AreCommits T) (held : List 
     where
       by : (v' ≡ v) × ((new ≡ old) ⊎ IsOfStore fault) → IsAsBeforeButOrphans T held old new v v'
       by (still, inl same) = as_before T known held old new v v' (full_before T old new v v' is_open same still)
-      by (still, inr store) = absurd (other store)
+      by (still, inr (inl space)) =
+          as_before T known held old new v v' (leaves_before T old new v v' (commits.space old new v v' block d name replace fault is_open (inl space) does))
+      by (still, inr (inr (reason, is))) = absurd (other reason is)
 
-  pub not_placed : (old new : StoreState) (v v' : Volume) (fault : Fault) → IsOpen T old v → (IsOfStore fault → ⊥) →
+  pub not_placed : (old new : StoreState) (v v' : Volume) (fault : Fault) → IsOpen T old v → ((reason : Refusal) → fault ≢ Kernel reason) →
       MakesFreely Commits T held old new v v' (Err fault) → IsAsBeforeButOrphans T held old new v v'
   not_placed old new v v' fault is_open other makes =
       made_told T known held (IsOpen T) (λ s v is_open. is_open) (IsAsBeforeButOrphans T held) (λ old new v v' is. is.is_open) (unheld_then T known held)

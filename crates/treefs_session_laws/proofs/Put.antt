@@ -5,9 +5,11 @@ use Rattle.std.proofs.lemmas.List.{take_all}
 use Rattle.std.proofs.lemmas.List.Elements.{All-drop}
 use Rattle.xn_model.specs.Lives.{StoreState}
 use Rattle.xn_model.specs.Types.{Types}
+use Rattle.store_types.specs.declared.refusal.Refusal.{Refusal}
 use Rattle.treefs_format.specs.declared.kind.Kind.TheVariants as kinds
 use Rattle.treefs_model.specs.Files.{Files, Inode}
 use Rattle.treefs_model.specs.declared.fault.Fault.{Fault}
+use Rattle.treefs_model.specs.declared.fault.Fault.TheVariants.{Kernel}
 use Rattle.treefs.specs.Creating.{BeginDoes}
 use Rattle.treefs.specs.Trimming.{GiveUpDoes}
 use Rattle.treefs.specs.declared.volume.Volume.{Volume}
@@ -17,7 +19,6 @@ use Rattle.treefs_laws.specs.Kept.{files_in}
 use Rattle.treefs_laws.specs.Making.{new_inode}
 use Rattle.treefs_laws.specs.Open.{IsOpen}
 use Rattle.treefs_laws.specs.Orphans.{IsReaped}
-use Rattle.treefs_laws.specs.Refusals.{IsOfStore}
 use Rattle.treefs_laws.specs.Unnamed.{IsUnnamed}
 use Rattle.treefs_laws.proofs.ForCallers.{reaped_then}
 use Rattle.treefs_puts.specs.Writing.{WriteBegunDoes}
@@ -64,7 +65,7 @@ module _ (T : Types) (known : AreKnown T) (commits : AreCommits T) (held : List 
   Left old new v v' = IsOpen T new v' × Reaped (files_in old v) (files_in new v')
 
   module _ (block : ℕ) (old : StoreState) (v : Volume) (is_open : IsOpen T old v) (unnamed : IsUnnamed old v block) where
-    not_named : (new : StoreState) (v' : Volume) (fault : Fault) → (IsOfStore fault → ⊥) → WritesAndNames T held put block old new v v' (Err fault) →
+    not_named : (new : StoreState) (v' : Volume) (fault : Fault) → ((reason : Refusal) → fault ≢ Kernel reason) → WritesAndNames T held put block old new v v' (Err fault) →
         Left old new v v' × IsUnnamed new v' block
     not_named new v' fault other (inl writes) =
         let is = begun_so T known held block (laws.writes block) 384 (drop 384 put.bytes.now) old new v v' (Err fault) (is_open, unnamed)
@@ -76,14 +77,14 @@ module _ (T : Types) (known : AreKnown T) (commits : AreCommits T) (held : List 
         let n = not_placed T known commits held block put.directory put.name.now put.replace middle new w v' fault is.is_open other names in
         ((n.is_open, reaped_on (files_in old v) (files_in middle w) (files_in new v') is.files n.files), (n.unnamed block is.unnamed).0)
 
-    not_finished : (new : StoreState) (v' : Volume) (fault : Fault) → (IsOfStore fault → ⊥) → Finishes T held put block old new v v' (Err fault) →
+    not_finished : (new : StoreState) (v' : Volume) (fault : Fault) → ((reason : Refusal) → fault ≢ Kernel reason) → Finishes T held put block old new v v' (Err fault) →
         Left old new v v'
     not_finished new v' fault other (middle, w, given, does, gives_up) =
         let n = not_named middle w fault other does in
         let g = given_up T known block (laws.gives block) middle new w v' given (n.0.0, n.1) gives_up in
         (g.is_open, subst (Reaped (files_in old v)) (sym g.files) n.0.1)
 
-  pub not_put : (old new : StoreState) (v v' : Volume) (fault : Fault) → IsOpen T old v → (IsOfStore fault → ⊥) → PutDoes T held put old new v v' (Err fault) →
+  pub not_put : (old new : StoreState) (v v' : Volume) (fault : Fault) → IsOpen T old v → ((reason : Refusal) → fault ≢ Kernel reason) → PutDoes T held put old new v v' (Err fault) →
       IsOpen T new v' × IsReaped (IsUnheld held) (files_in old v) (files_in new v')
   not_put old new v v' fault is_open other (inl not_begun) =
       let is = begins_in_vain T known held put.kind put.attributes (take 384 put.bytes.now) laws.refused old new v v' fault is_open not_begun in

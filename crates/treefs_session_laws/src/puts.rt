@@ -3,10 +3,12 @@
 ghost use Rattle.std.specs.Prelude.{◌≡◌, ◌≢◌, ◌<◌, ◌≤◌, ℕ, All, Bool, Err, List, Ok, Result, length};
 ghost use Rattle.xn_model.specs.Types.{Types};
 ghost use Rattle.xn_model.specs.Lives.{StoreState};
+ghost use Rattle.store_types.specs.declared.refusal.Refusal.{Refusal};
 ghost use Rattle.treefs_format.specs.declared.kind.Kind.{Kind};
 ghost use Rattle.treefs_format.specs.declared.kind.Kind.TheVariants as kinds;
 ghost use Rattle.treefs_model.specs.Files.{Files, Inode};
 ghost use Rattle.treefs_model.specs.declared.fault.Fault.{Fault};
+ghost use Rattle.treefs_model.specs.declared.fault.Fault.TheVariants.{Kernel};
 ghost use Rattle.treefs.specs.Committing.{CommitDoes};
 ghost use Rattle.treefs.specs.Creating.{BeginDoes};
 ghost use Rattle.treefs.specs.declared.attributes.Attributes.{Attributes};
@@ -17,7 +19,6 @@ ghost use Rattle.treefs_laws.specs.Kept.{files_in};
 ghost use Rattle.treefs_laws.specs.Making.{FitsAttributes, new_inode};
 ghost use Rattle.treefs_laws.specs.Open.{IsOpen};
 ghost use Rattle.treefs_laws.specs.Orphans.{IsReaped};
-ghost use Rattle.treefs_laws.specs.Refusals.{IsOfStore};
 ghost use Rattle.treefs_laws.specs.Unnamed.{IsUnnamed};
 ghost use Rattle.treefs_session.specs.Freeing.{GivesUp, MakesFreely};
 ghost use Rattle.treefs_session.specs.Pieces.{WritesAll};
@@ -87,7 +88,8 @@ pub fn sessions_give_up_an_inode()
 }
 
 /// An inode that was begun gets a number and its first name from a session, on a volume that is as before but for orphans, and nothing else changes. Where it
-/// may replace, what had the name loses a link. Where that is refused, but by the store, all is as before but for orphans.
+/// may replace, what had the name loses a link. Where that is refused, for want of space too, all is as before but for orphans; told is that it isn't the
+/// store's own refusal.
 pub fn sessions_name_an_inode()
     ensures named { (T : Types) (held : List ℕ) (old new : StoreState) (volume volume' : Volume) (block : ℕ) (inode : Inode) (d : ℕ) (name : List ℕ)
         (replace : Bool) (n : ℕ) → IsOpen T old volume → IsBegun old volume block inode → All (λ b. b < 256) name →
@@ -95,7 +97,7 @@ pub fn sessions_name_an_inode()
         IsOpen T new volume' × (middle : StoreState) × (between : Volume) × IsAsBeforeButOrphans T held old middle volume between
         × IsNamed (files_in middle between) (files_in new volume') volume.memory.clock d name replace n inode }
     ensures refused { (T : Types) (held : List ℕ) (old new : StoreState) (volume volume' : Volume) (block d : ℕ) (name : List ℕ) (replace : Bool)
-        (fault : Fault) → IsOpen T old volume → (IsOfStore fault → ⊥) →
+        (fault : Fault) → IsOpen T old volume → ((reason : Refusal) → fault ≢ Kernel reason) →
         MakesFreely (λ s s' v v' result. CommitDoes T s s' v v' block d name replace result) T held old new volume volume' (Err fault) →
         IsAsBeforeButOrphans T held old new volume volume' }
 {
@@ -133,10 +135,11 @@ pub fn sessions_put_small_files()
     commit_replaces_a_name();
 }
 
-/// A put by a session that is refused, but by the store, changes no file, but that inodes without links that aren't held may be freed.
+/// A put by a session that is refused, for want of space too, changes no file, but that inodes without links that aren't held may be freed. Told is that it
+/// isn't the store's own refusal, before which some edits of the name may have been made.
 pub fn refused_puts_change_no_file()
     ensures { (T : Types) (held : List ℕ) (put : Put) (old new : StoreState) (volume volume' : Volume) (fault : Fault) → IsOpen T old volume →
-        FitsAttributes put.attributes → put.kind ≢ kinds.Directory → All (λ b. b < 256) put.bytes.now → (IsOfStore fault → ⊥) →
+        FitsAttributes put.attributes → put.kind ≢ kinds.Directory → All (λ b. b < 256) put.bytes.now → ((reason : Refusal) → fault ≢ Kernel reason) →
         PutDoes T held put old new volume volume' (Err fault) →
         IsOpen T new volume' × IsReaped (IsUnheld held) (files_in old volume) (files_in new volume') }
 {
