@@ -12,10 +12,11 @@ use Rattle.treefs_values.specs.Dropped.{AreDropped, AreOverPointers, IsHolderWay
 use Rattle.treefs_values.specs.Kinds.{kinds}
 use Rattle.treefs_values.specs.KnownLayout.{IsLayout}
 use Rattle.treefs_values.proofs.ForCallers.{IsAt}
+use Rattle.treefs_laws.specs.Unnamed.{IsReadAlike}
 use Rattle.treefs_laws.proofs.AsideTree.{IsAside}
 use Rattle.treefs_laws.proofs.AsideVolume.{StaysAside}
 use Rattle.treefs_laws.proofs.ClearedPointers.{are_cleared, clears, still_whole, unread}
-use Rattle.treefs_laws.proofs.PointersGone.{IsGone, IsOf, IsRoot, still_unled, unled_bytes, unled_inode, unled_leaf, volume_stays}
+use Rattle.treefs_laws.proofs.PointersGone.{IsGone, IsOf, IsRoot, still_unled, unled_alike, unled_inode, unled_leaf, volume_stays}
 use Rattle.treefs_laws.proofs.WaysApart.{IsInodeBlock}
 
 module _ (T : Types) (tree : Tree) (known : IsLayout) (old new : StoreState) (here : IsAt T tree.fs.number tree.node_type tree.inode_type tree.top old)
@@ -72,11 +73,13 @@ module _ (T : Types) (tree : Tree) (known : IsLayout) (old new : StoreState) (he
       unled = still_unled node inode tree.top type type' content later here.volume known r r_some r_is stands q way there places cleared of c a.there a.unled;
     }
 
-  pub cleared_bytes : (c : ℕ) → IsAside tree.node_type tree.inode_type tree.top c (kinds old tree.fs.number) (readable old tree.fs.number) → c ≢ r →
-      readable new tree.fs.number c ≡ readable old tree.fs.number c
-  cleared_bytes c a other =
-      ap (λ m. m c) (clears T tree known old new here r r_is q way there places blocks behind over led act no_adds at_block drops writes ran)
-      ∙ unled_bytes node inode tree.top type type' content later here.volume known r r_some r_is stands q way there places cleared of c a.is_block a.unled other
+  pub cleared_alike : (c : ℕ) → IsAside tree.node_type tree.inode_type tree.top c (kinds old tree.fs.number) (readable old tree.fs.number) → c ≢ r →
+      IsReadAlike (readable old tree.fs.number) (readable new tree.fs.number) c
+  cleared_alike c a other =
+      subst (λ m. IsReadAlike content m c)
+      (sym (clears T tree known old new here r r_is q way there places blocks behind over led act no_adds at_block drops writes ran))
+      (unled_alike node inode tree.top type type' content later here.volume known r r_some r_is stands q way there places cleared of c a.is_block a.unled
+      a.no_root other)
 
   pub cleared_aside : StaysAside tree old new
   cleared_aside c a =

@@ -37,7 +37,7 @@ module _ (node inode top c : ℕ) where
       | inr some ↦ keeps (block_at old c q) p (way_pointer node inode top type old a.volume c a.is_block k p q way some)
     ]
 
-    placed_way : (k : ℕ) (os : List ℕ) → IsWay os k → block_at new c os ≡ block_at old c os
+    pub placed_way : (k : ℕ) (os : List ℕ) → IsWay os k → block_at new c os ≡ block_at old c os
     placed_way k [] way = absurd way
     placed_way k (p ∷ []) way = placed_point k p [] way refl
     placed_way k (p ∷ r ∷ q) way = placed_point k p (r ∷ q) way (placed_way (suc k) (r ∷ q) way.3)

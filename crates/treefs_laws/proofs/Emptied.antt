@@ -30,8 +30,9 @@ use Rattle.treefs_values.specs.Kinds.{kinds}
 use Rattle.treefs_values.specs.KnownLayout.{IsLayout}
 use Rattle.treefs_values.specs.Ways.{IsFirst, IsWay, block_numbered}
 use Rattle.treefs_values.proofs.ForCallers.{IsAt, file_read, inode_numbered, inode_pointer}
-use Rattle.treefs_laws.proofs.AsideCleared.{cleared_aside, cleared_bytes}
-use Rattle.treefs_laws.proofs.AsideVolume.{IsAsideIn, StaysAside}
+use Rattle.treefs_laws.specs.Unnamed.{IsReadAlike}
+use Rattle.treefs_laws.proofs.AsideCleared.{cleared_alike, cleared_aside}
+use Rattle.treefs_laws.proofs.AsideVolume.{IsAsideIn, StaysAside, alike_same, alike_then}
 use Rattle.treefs_laws.proofs.ClearedPointers.{at_still, still_buckets, still_bytes, still_fields, still_inode_block, still_key, still_numbered, still_others}
 use Rattle.treefs_laws.proofs.ClearedPointers.{still_root}
 use Rattle.treefs_laws.proofs.CutWays.{IsNextCut}
@@ -100,7 +101,7 @@ module _ (T : Types) (tree : Tree) (known : IsLayout) (c : ℕ) (fields : Fields
     pub buckets : (k : ℕ) → (bucket_of (readable new fs) c k ≡ bucket_of (readable old fs) c k) ⊎ (bucket_of (readable new fs) c k ≡ [])
     pub others : (m : ℕ) → block_numbered (readable old fs) top m ≢ c → files_of (readable new fs) top m ≡ files_of (readable old fs) top m
     pub beside : StaysAside tree old new
-    pub bytes_beside : (a : ℕ) → a ≢ c → IsAsideIn old tree a → readable new fs a ≡ readable old fs a
+    pub alike_beside : (a : ℕ) → a ≢ c → IsAsideIn old tree a → IsReadAlike (readable old fs) (readable new fs) a
 
   same_state : (s : StoreState) → IsInodeAt s → Leaves s s
   same_state s at = record {
@@ -111,7 +112,7 @@ module _ (T : Types) (tree : Tree) (known : IsLayout) (c : ℕ) (fields : Fields
     buckets = λ k. inl refl;
     others = λ m ne. refl;
     beside = λ a is. is;
-    bytes_beside = λ a ne is. refl;
+    alike_beside = λ a ne is. alike_same (readable s fs) a;
   }
 
   after : (old new : StoreState) → Leaves old new → IsInodeAt new
@@ -127,7 +128,8 @@ module _ (T : Types) (tree : Tree) (known : IsLayout) (c : ℕ) (fields : Fields
         (second.buckets k);
     others = λ m ne. second.others m (λ is. ne (sym (first.numbers m) ∙ is)) ∙ first.others m ne;
     beside = λ a is. second.beside a (first.beside a is);
-    bytes_beside = λ a ne is. second.bytes_beside a ne (first.beside a is) ∙ first.bytes_beside a ne is;
+    alike_beside = λ a ne is.
+        alike_then (readable old fs) (readable middle fs) (readable new fs) a (first.alike_beside a ne is) (second.alike_beside a ne (first.beside a is));
   }
 
   abbrev Parts : (StoreState → StoreState → Result (Unit {0}) Fault → Type 0) → Type 0
@@ -176,8 +178,8 @@ module _ (T : Types) (tree : Tree) (known : IsLayout) (c : ℕ) (fields : Fields
           at.stands of at.no_table;
       beside = cleared_aside T tree known old new at.here c at.is_block q way there places blocks behind over led act no_adds at_block drops writes ran at.there
           at.stands of;
-      bytes_beside = λ a ne is.
-          cleared_bytes T tree known old new at.here c at.is_block q way there places blocks behind over led act no_adds at_block drops writes ran at.there
+      alike_beside = λ a ne is.
+          cleared_alike T tree known old new at.here c at.is_block q way there places blocks behind over led act no_adds at_block drops writes ran at.there
           at.stands of a is ne;
     }
 

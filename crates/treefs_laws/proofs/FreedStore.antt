@@ -28,7 +28,7 @@ use Rattle.treefs_values.specs.KnownLayout.{IsLayout}
 use Rattle.treefs_values.specs.Volumes.{IsVolume}
 use Rattle.treefs_values.specs.Ways.{IsWay, block_numbered}
 use Rattle.treefs_values.proofs.ForCallers.{IsAt, low_offset}
-use Rattle.treefs_laws.proofs.AsideCleared.{cleared_aside, cleared_bytes}
+use Rattle.treefs_laws.proofs.AsideCleared.{cleared_alike, cleared_aside}
 use Rattle.treefs_laws.proofs.AsideVolume.{KeepsAside}
 use Rattle.treefs_laws.proofs.ClearedBytes.{cleared_patched, freed_place, patch_clears}
 use Rattle.treefs_laws.proofs.ClearedPointers.{at_still, no_file_then, still_files}
@@ -199,7 +199,7 @@ module _ (T : Types) (tree : Tree) (known : IsLayout)
       freed_aside c a = (
         cleared_aside T tree known old new here top top_is (holder_steps leaf) way there places blocks None over led (reap_act plan) refl at_holder drops
             writes ran v.root (inl (0, refl)) of c a,
-        cleared_bytes T tree known old new here top top_is (holder_steps leaf) way there places blocks None over led (reap_act plan) refl at_holder drops
+        cleared_alike T tree known old new here top top_is (holder_steps leaf) way there places blocks None over led (reap_act plan) refl at_holder drops
             writes ran v.root (inl (0, refl)) of c a a.no_root,
       )
 

@@ -31,7 +31,7 @@ use Rattle.treefs_laws.specs.Kept.{files_in}
 use Rattle.treefs_laws.specs.Open.{IsOpen}
 use Rattle.treefs_laws.specs.Seen.{seen_files}
 use Rattle.treefs_laws.specs.Unnamed.{KeepsUnnamed}
-use Rattle.treefs_laws.proofs.AsideVolume.{steady_stays, unnamed_kept}
+use Rattle.treefs_laws.proofs.AsideVolume.{alike_same, steady_keeps, unnamed_kept}
 use Rattle.treefs_laws.proofs.Planned.{ran_acts}
 use Rattle.treefs_laws.proofs.RootMarked.{marked_files, marked_keeps, marked_volume}
 use Rattle.treefs_laws.proofs.StillOpen.{ran_root}
@@ -126,12 +126,10 @@ module _ (T : Types) (old new : StoreState) (volume : Volume) (clean : Bool) (is
     },
     files,
     unnamed_kept T old new volume volume is_open refl
-        (λ c aside. (
-          steady_stays volume.tree old new read.2
-              (subst (SamePointers volume.tree.node_type volume.tree.inode_type (kinds old fs) content) (sym read.1)
-              (marked_keeps volume.tree.node_type volume.tree.inode_type top (kinds old fs) content later v others words same_key whole)) bytes c aside,
-          ap (λ m. m c) read.1 ∙ others c aside.no_root,
-        )),
+        (steady_keeps volume.tree old new read.2
+        (subst (SamePointers volume.tree.node_type volume.tree.inode_type (kinds old fs) content) (sym read.1)
+        (marked_keeps volume.tree.node_type volume.tree.inode_type top (kinds old fs) content later v others words same_key whole))
+        (λ b other. ap (λ m. m b) read.1 ∙ others b (λ same. other 0 (sym same))) bytes),
   )
     where
       read : IsConsistent T new × (readable new fs ≡ later) × (kinds new fs ≡ kinds old fs)
@@ -148,4 +146,4 @@ module _ (T : Types) (old new : StoreState) (volume : Volume) (clean : Bool) (is
 
   pub mark_said : (result : Result (Unit {0}) Fault) → Does T fs (mark_plan top clean) old new result → Said new
   mark_said (Ok tt) does = made (ran_acts T fs (act ∷ []) old new does)
-  mark_said (Err fault) does = subst Said (sym (refused_whole T fs act old new fault does)) (is_open, refl, λ block unnamed. (unnamed, refl))
+  mark_said (Err fault) does = subst Said (sym (refused_whole T fs act old new fault does)) (is_open, refl, λ block unnamed. (unnamed, alike_same content block))

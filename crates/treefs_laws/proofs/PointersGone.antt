@@ -18,6 +18,7 @@ use Rattle.treefs_values.specs.KnownLayout.{IsLayout}
 use Rattle.treefs_values.specs.Volumes.{IsDirectory, IsVolume, IsWholeBlock}
 use Rattle.treefs_values.specs.Ways.{ArePointersApart, IsTyped, IsWay, block_numbered}
 use Rattle.treefs_values.proofs.ForCallers.{IsAlike, file_read, in_leaf, inode_numbered}
+use Rattle.treefs_laws.specs.Unnamed.{IsReadAlike}
 use Rattle.treefs_laws.proofs.SameValues.{fewer_buckets, inode_alike}
 use Rattle.treefs_laws.proofs.WaysApart.{IsInodeBlock, below_root, file_none, inodes_apart, no_top, none_below, not_root, numbered_block, of_types, one_height}
 use Rattle.treefs_laws.proofs.WaysApart.{other_type, same_way, steps_way, way_pointer}
@@ -388,8 +389,15 @@ module _ (node inode top : ℕ) (type type' : ℕ → ℕ) (old new : ℕ → Li
         by (o ∷ os) (inr (l, way)) some is =
             unled (at r os) o (way_pointer node inode top type old v r r_is (suc l) o os way (λ z. some (nowhere old (at r os) o z))) (sym is)
 
-    pub unled_bytes : a ≢ r → new a ≡ old a
-    unled_bytes other = elim a_kept.1 [ inl here ↦ absurd (not_holder other here) | inr bytes ↦ bytes ]
+    unled_way : a ≢ r → (i : ℕ) → (leaf_block new a i ≡ leaf_block old a i) × (leaf_block old a i ≢ 0 → Kept (leaf_block old a i))
+    unled_way other i = elim (shrunk a (λ there. (a_is, a_kept)) 0 (steps i) (steps_way i)) [ inl s ↦ s | inr s ↦ absurd (other s.1.0) ]
+
+    pub unled_alike : a ≢ top → a ≢ r → IsReadAlike old new a
+    unled_alike no_table other = record {
+      own = elim a_kept.1 [ inl here ↦ absurd (not_holder other here) | inr bytes ↦ bytes ];
+      leaves = λ i. (unled_way other i).0;
+      bytes = λ i some. leaf_bytes a i a_is no_table some ((unled_way other i).1 some);
+    }
 
   -- It is a volume still
 

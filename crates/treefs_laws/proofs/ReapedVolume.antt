@@ -31,7 +31,7 @@ use Rattle.treefs_laws.specs.Kept.{files_in}
 use Rattle.treefs_laws.specs.Open.{IsOpen}
 use Rattle.treefs_laws.specs.Orphans.{IsLeftOf, IsOrphan, IsReaped, WaitLess}
 use Rattle.treefs_laws.specs.Seen.{seen_files, seen_inode}
-use Rattle.treefs_laws.proofs.AsideVolume.{IsAsideIn, KeepsAside}
+use Rattle.treefs_laws.proofs.AsideVolume.{IsAsideIn, KeepsAside, alike_same}
 use Rattle.treefs_laws.proofs.Emptied.{IsInodeAt, Leaves, empties, says}
 use Rattle.treefs_laws.proofs.FreedMemory.{all_left, session_left, times_left}
 use Rattle.treefs_laws.proofs.FreedStore.{freed_aside, freed_at_still, freed_gone, freed_orphan, others_there, own_freed}
@@ -83,7 +83,7 @@ module _ (T : Types) (known : IsLayout) (numbers : List ℕ) (old new : StoreSta
   same_volume same volume' is =
       subst (λ s. IsOpen T s volume' × IsReaped (Contains numbers) (files_in old volume) (files_in s volume') × KeepsAside volume.tree old s) (sym same)
       (subst (λ w. IsOpen T old w × IsReaped (Contains numbers) (files_in old volume) (files_in old w) × KeepsAside volume.tree old old) (sym is)
-      (is_open, reaped_same (Contains numbers) (among_or_not numbers) (files_in old volume), λ a aside. (aside, refl)))
+      (is_open, reaped_same (Contains numbers) (among_or_not numbers) (files_in old volume), λ a aside. (aside, alike_same content a)))
 
   orphan_in_files : (n : ℕ) → Contains numbers n → IsOrphanFound content top n → IsOrphan (Contains numbers) files_before n
   orphan_in_files n among o = record { among = among; inode = o.inode; there = o.there; unlinked = o.no_links }
@@ -185,7 +185,7 @@ module _ (T : Types) (known : IsLayout) (numbers : List ℕ) (old new : StoreSta
               volume.memory.touched is_open.touched;
         },
         reaped_seen (Contains numbers) volume.memory.touched volume.memory.touched files_before files_now (λ m. inr (λ times. refl)) emptied,
-        λ a aside. (leaves.beside a aside, leaves.bytes_beside a (not_own a aside) aside),
+        λ a aside. (leaves.beside a aside, leaves.alike_beside a (not_own a aside) aside),
       )
 
   pub one_emptied : (number : ℕ) → Contains numbers number → (result : Result (Unit {0}) Fault) →

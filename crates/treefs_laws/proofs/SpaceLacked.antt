@@ -45,7 +45,7 @@ use Rattle.treefs_laws.specs.Open.{IsOpen}
 use Rattle.treefs_laws.specs.Seen.{seen_files}
 use Rattle.treefs_laws.specs.Space.{LacksSpace, LeavesFiles}
 use Rattle.treefs_laws.specs.Unnamed.{KeepsUnnamed}
-use Rattle.treefs_laws.proofs.AsideVolume.{read_keeps}
+use Rattle.treefs_laws.proofs.AsideVolume.{alike_same, read_keeps}
 use Rattle.treefs_laws.proofs.ForgottenStarts.{SameLives, planned_same}
 use Rattle.treefs_laws.proofs.Planned.{same_fault}
 
@@ -186,4 +186,4 @@ module _ (T : Types) (state state' : StoreState) (volume : Volume) (fault : Faul
   pub begin_leaves : IsOpen T state volume → (kind : Kind) (attributes : Attributes) (head : List ℕ) →
       BeginDoes T state state' volume kind attributes head (Err fault) → LeavesFiles T state state' volume volume
   begin_leaves is_open kind attributes head does =
-      subst (λ s. LeavesFiles T state s volume volume) (sym (begin_refused kind attributes head does)) (refl, is_open, refl, λ block unnamed. (unnamed, refl))
+      subst (λ s. LeavesFiles T state s volume volume) (sym (begin_refused kind attributes head does)) (refl, is_open, refl, λ block unnamed. (unnamed, alike_same (readable state volume.tree.fs.number) block))

@@ -39,12 +39,10 @@ use Rattle.treefs_values.specs.Kinds.{kinds}
 use Rattle.treefs_values.specs.Values.{AreChanges, KeepsBlocks, found_value}
 use Rattle.treefs_values.specs.Volumes.{IsVolume}
 use Rattle.treefs_values.specs.Ways.{SamePointers, block_numbered}
-use Rattle.treefs_values.proofs.ForCallers.{IsAt, IsFound, acts_read, changes_keep, fields_changed, found_inode, inodes_found}
+use Rattle.treefs_values.proofs.ForCallers.{IsAt, IsFound, acts_read, changes_keep, fields_changed, found_inode, inodes_found, numbered_same}
 use Rattle.treefs_laws.specs.Kept.{IsKept, files_in}
 use Rattle.treefs_laws.specs.Open.{IsOpen}
 use Rattle.treefs_laws.specs.Seen.{AreTimes, AreTouchedOnce, IsSession, seen_files, seen_inode, with_times}
-use Rattle.treefs_laws.proofs.PointersGone.{IsUnled}
-use Rattle.treefs_laws.proofs.WaysApart.{numbered_led}
 use Rattle.treefs_laws.proofs.Planned.{ran_acts, same_done}
 use Rattle.treefs_laws.proofs.Seeing.{seen_changed, unchanged}
 use Rattle.treefs_laws.proofs.StillOpen.{ran_root}
@@ -147,28 +145,26 @@ module _ (T : Types) (tree : Tree) (known : IsLayout) where
   abbrev files_at : StoreState → Files
   files_at s = files_of (readable s fs) top
 
-  abbrev pub Unled : StoreState → ℕ → Type 0
-  Unled s b = (b ≢ 0) × (b ≢ top) × IsUnled tree.node_type tree.inode_type (kinds s fs) (readable s fs) b
+  abbrev pub HasNoNumber : StoreState → ℕ → Type 0
+  HasNoNumber s b = (m : ℕ) → block_numbered (readable s fs) top m ≢ b
 
-  -- no type changes, and no pointer, and no block to which nothing points
+  -- no type changes, and no pointer, and no block but those of inodes with numbers
   abbrev pub IsSteady : StoreState → StoreState → Type 0
   IsSteady old new = (kinds new fs ≡ kinds old fs) × SamePointers tree.node_type tree.inode_type (kinds old fs) (readable old fs) (readable new fs)
-      × ((b : ℕ) → Unled old b → readable new fs b ≡ readable old fs b)
+      × ((b : ℕ) → HasNoNumber old b → readable new fs b ≡ readable old fs b)
 
   steady_same : (s : StoreState) → IsSteady s s
-  steady_same s = (refl, λ p o has. refl, λ b unled. refl)
+  steady_same s = (refl, λ p o has. refl, λ b other. refl)
 
-  steady_then : (old middle new : StoreState) → IsSteady old middle → IsSteady middle new → IsSteady old new
-  steady_then old middle new first second = (
+  steady_then : (old middle new : StoreState) → At old → IsSteady old middle → IsSteady middle new → IsSteady old new
+  steady_then old middle new here first second = (
     second.0 ∙ first.0,
     λ p o has. second.1 p o (subst (λ t. IsTrue (has_pointer tree.node_type tree.inode_type (t p) o)) (sym first.0) has) ∙ first.1 p o has,
-    λ b unled. second.2 b (unled.0, unled.1, unled_then b unled.2) ∙ first.2 b unled,
+    λ b other. second.2 b (λ m same. other m (sym (numbers m) ∙ same)) ∙ first.2 b other,
   )
     where
-      unled_then : (b : ℕ) → IsUnled tree.node_type tree.inode_type (kinds old fs) (readable old fs) b →
-          IsUnled tree.node_type tree.inode_type (kinds middle fs) (readable middle fs) b
-      unled_then b unled p o has same =
-          let was = subst (λ t. IsTrue (has_pointer tree.node_type tree.inode_type (t p) o)) first.0 has in unled p o was (sym (first.1 p o was) ∙ same)
+      numbers : (m : ℕ) → block_numbered (readable middle fs) top m ≡ block_numbered (readable old fs) top m
+      numbers = numbered_same tree.node_type tree.inode_type top (kinds old fs) (readable old fs) (readable middle fs) here.volume.typed first.1
 
   -- the times of one inode are written
   module _ (touch : Touched) (rest : List Touched) (old new : StoreState) (here : At old) (fit : AreTimes touch.times)
@@ -197,11 +193,9 @@ module _ (T : Types) (tree : Tree) (known : IsLayout) where
           changes_keep tree.node_type tree.inode_type top (kinds old fs) (readable old fs) here.volume known touch.number is.number is.there
           (time_parts (Some touch.times)) (times_fine (fields_of (readable old fs c)) touch.times fit) None
 
-      -- a block to which nothing points is no inode's
-      others : (b : ℕ) → Unled old b → written act (readable old fs) b ≡ readable old fs b
-      others b unled =
-          let other = numbered_led tree.node_type tree.inode_type top (kinds old fs) (readable old fs) here.volume b unled.0 unled.1 unled.2 touch.number in
-          ap (λ t. if t then patched (readable old fs b) act.edit.patches else readable old fs b) (ne_eqb b c (λ same. other (sym same)))
+      others : (b : ℕ) → HasNoNumber old b → written act (readable old fs) b ≡ readable old fs b
+      others b other =
+          ap (λ t. if t then patched (readable old fs b) act.edit.patches else readable old fs b) (ne_eqb b c (λ same. other touch.number (sym same)))
 
       keep : All KeepsBlocks (act ∷ [])
       keep = All-cons KeepsBlocks act [] refl (All-nil KeepsBlocks)
@@ -219,7 +213,7 @@ module _ (T : Types) (tree : Tree) (known : IsLayout) where
             (
               read.2,
               subst (SamePointers tree.node_type tree.inode_type (kinds old fs) (readable old fs)) (sym read.1) keeps,
-              λ b unled. ap (λ m. m b) read.1 ∙ others b unled,
+              λ b other. ap (λ m. m b) read.1 ∙ others b other,
             ),
           )
 
@@ -271,7 +265,7 @@ module _ (T : Types) (tree : Tree) (known : IsLayout) where
     | inr r ↦
         let first = one_written touch rest old r.0 here (All-head (λ touch. AreTimes touch.times) touch rest fit) once.0 r.1 in
         let others = all_times rest left r.0 new result first.0 once.1 (All-tail (λ touch. AreTimes touch.times) touch rest fit) r.2 in
-        (others.0, others.1, others.2 ∙ first.1, steady_then old r.0 new first.2 others.3)
+        (others.0, others.1, others.2 ∙ first.1, steady_then old r.0 new here first.2 others.3)
   ]
     where
       refused : (result : Result (Unit {0}) Fault) → MatchResult result (λ done. ⊥) (λ fault. WritesOne T tree touch old new (Err fault)) → left ≡ touch ∷ rest →

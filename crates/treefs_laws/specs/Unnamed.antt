@@ -1,6 +1,7 @@
 -- An inode that has no number.
 --     IsUnnamed        nothing points to its block; those on the ways from it have their types
---     KeepsUnnamed     one that had no number has none then, and its block the bytes that it had
+--     IsReadAlike      the block of an inode, and its leaves, say what they said
+--     KeepsUnnamed     one that had no number has none then, and is read alike
 use Rattle.std.specs.Prelude.{◌≡◌, ◌≢◌, ℕ, suc, ◌<◌, List, IsTrue}
 use Rattle.xn_model.specs.Lives.{StoreState}
 use Rattle.treefs_format.specs.Paths.{leaf_count}
@@ -22,6 +23,11 @@ pub record IsUnnamed (state : StoreState) (volume : Volume) (block : ℕ) : Type
   pub unled : (p o : ℕ) → IsTrue (has_pointer volume.tree.node_type volume.tree.inode_type (kinds state volume.tree.fs.number p) o) →
       pointed (readable state volume.tree.fs.number) p o ≢ block
 
+pub record IsReadAlike (old new : ℕ → List ℕ) (block : ℕ) : Type 0 where
+  pub own : new block ≡ old block
+  pub leaves : (i : ℕ) → leaf_block new block i ≡ leaf_block old block i
+  pub bytes : (i : ℕ) → leaf_block old block i ≢ 0 → new (leaf_block old block i) ≡ old (leaf_block old block i)
+
 abbrev pub KeepsUnnamed : StoreState → StoreState → Volume → Volume → Type 0
 KeepsUnnamed old new volume volume' = (block : ℕ) → IsUnnamed old volume block →
-    IsUnnamed new volume' block × (readable new volume'.tree.fs.number block ≡ readable old volume.tree.fs.number block)
+    IsUnnamed new volume' block × IsReadAlike (readable old volume.tree.fs.number) (readable new volume'.tree.fs.number) block

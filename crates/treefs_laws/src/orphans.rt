@@ -8,12 +8,13 @@ ghost use Rattle.treefs.specs.Reaping.{ReapDoes};
 ghost use Rattle.treefs.specs.Trimming.{GiveUpDoes};
 ghost use Rattle.treefs.specs.declared.volume.Volume.{Volume};
 ghost use Rattle.treefs_model.specs.Files.{Inode};
+ghost use Rattle.treefs_model.specs.Reading.{inode_of};
 ghost use Rattle.treefs_puts.specs.Writing.{WriteBegunDoes};
 ghost use Rattle.treefs_laws.specs.Begun.{IsBegun};
 ghost use Rattle.treefs_laws.specs.Kept.{files_in};
 ghost use Rattle.treefs_laws.specs.Open.{IsOpen};
 ghost use Rattle.treefs_laws.specs.Orphans.{IsReaped, WaitLess, without_orphans};
-ghost use Rattle.treefs_laws.specs.Unnamed.{IsUnnamed, KeepsUnnamed};
+ghost use Rattle.treefs_laws.specs.Unnamed.{IsReadAlike, IsUnnamed, KeepsUnnamed};
 
 use treefs_format::law::leaves_are_side_by_side;
 use treefs_values::law::{
@@ -61,3 +62,8 @@ pub fn begun_writes_change_no_file()
     attached_blocks_are_pointed_to();
     empty_blocks_change_no_file();
 }
+
+/// An inode that is read alike says what it said, whether it has a number or not.
+pub fn inodes_read_alike_say_the_same()
+    ensures { (old new : ℕ → List ℕ) (key : List ℕ) (block : ℕ) → IsReadAlike old new block → inode_of new key block ≡ inode_of old key block }
+{}
