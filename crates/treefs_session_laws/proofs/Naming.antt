@@ -105,7 +105,7 @@ module _ (T : Types) (known : AreKnown T) (commits : AreCommits T) (held : List 
       let kept = before.unnamed block unnamed in
       let clock : last.1.memory.clock ≡ v.memory.clock = before.clock in
       let named = commits.named last.0 new last.1 v' block inode d name replace n before.is_open
-      (still_begun old last.0 v last.1 block inode begun kept.0 kept.1) wide last.3 in
+      (still_begun old last.0 v last.1 block inode begun kept.0 (kept.1).own) wide last.3 in
       (named.0, last.0, last.1, before, subst (λ t. IsNamed (files_in last.0 last.1) (files_in new v') t d name replace n inode) clock named.1)
 
   -- one that the store doesn't refuse leaves a volume as before
