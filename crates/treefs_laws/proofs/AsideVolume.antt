@@ -48,15 +48,15 @@ abbrev pub KeepsAside : Tree → StoreState → StoreState → Type 0
 KeepsAside tree old new = (c : ℕ) → IsAsideIn old tree c →
     IsAsideIn new tree c × IsReadAlike (readable old tree.fs.number) (readable new tree.fs.number) c
 
-pub alike_same : (m : ℕ → List ℕ) (c : ℕ) → IsReadAlike m m c
-alike_same m c = record { own = refl; leaves = λ i. refl; bytes = λ i some. refl }
+pub alike_same : (content : ℕ → List ℕ) (c : ℕ) → IsReadAlike content content c
+alike_same content c = record { own = refl; leaves = λ i. refl; bytes = λ i some. refl }
 
-pub alike_then : (m1 m2 m3 : ℕ → List ℕ) (c : ℕ) → IsReadAlike m1 m2 c → IsReadAlike m2 m3 c → IsReadAlike m1 m3 c
-alike_then m1 m2 m3 c first second = record {
+pub alike_then : (old middle new : ℕ → List ℕ) (c : ℕ) → IsReadAlike old middle c → IsReadAlike middle new c → IsReadAlike old new c
+alike_then old middle new c first second = record {
   own = second.own ∙ first.own;
   leaves = λ i. second.leaves i ∙ first.leaves i;
   bytes = λ i some.
-      ap m3 (sym (first.leaves i)) ∙ (second.bytes i (λ z. some (sym (first.leaves i) ∙ z)) ∙ (ap m2 (first.leaves i) ∙ first.bytes i some));
+      ap new (sym (first.leaves i)) ∙ (second.bytes i (λ z. some (sym (first.leaves i) ∙ z)) ∙ (ap middle (first.leaves i) ∙ first.bytes i some));
 }
 
 pub unnamed_kept : (T : Types) (old new : StoreState) (volume volume' : Volume) → IsOpen T old volume → volume'.tree ≡ volume.tree →

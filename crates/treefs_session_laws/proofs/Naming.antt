@@ -20,7 +20,7 @@ use Rattle.treefs_laws.specs.Space.{LacksSpace, LeavesFiles}
 use Rattle.treefs_laws.specs.Unnamed.{IsUnnamed}
 use Rattle.treefs_session.specs.Freeing.{MakesFreely}
 use Rattle.treefs_session_laws.specs.Before.{IsAsBefore, IsAsBeforeButOrphans}
-use Rattle.treefs_session_laws.specs.Puts.{IsNamed}
+use Rattle.treefs_session_laws.specs.Puts.{GetsName}
 use Rattle.treefs_session_laws.proofs.Again.{again_before, leaves_before}
 use Rattle.treefs_session_laws.proofs.Freed.{AreKnown, as_before, made_freely, unheld_then}
 use Rattle.treefs_session_laws.proofs.Kept.{made_told}
@@ -66,7 +66,7 @@ module _ (T : Types) (s s' : StoreState) (v v' : Volume) (block d : ℕ) (name :
       (replaces : CommitDoes T s s' v v' block d name true (Ok n) →
       IsOpen T s' v' × (files_in s v n ≡ None) × (replaced (files_in s v) v.memory.clock d name n inode ≡ Ok (files_in s' v'))) where
     pub commit_named : (replace : Bool) → CommitDoes T s s' v v' block d name replace (Ok n) →
-        IsOpen T s' v' × IsNamed (files_in s v) (files_in s' v') v.memory.clock d name replace n inode
+        IsOpen T s' v' × GetsName (files_in s v) (files_in s' v') v.memory.clock d name replace n inode
     commit_named false does = named does
     commit_named true does = let r = replaces does in (r.0, (r.1, r.2))
 
@@ -78,7 +78,7 @@ pub record AreCommits (T : Types) : Type 0 where
       CommitDoes T s s' v v' block d name replace (Err fault) → LeavesFiles T s s' v v'
   pub named : (s s' : StoreState) (v v' : Volume) (block : ℕ) (inode : Inode) (d : ℕ) (name : List ℕ) (replace : Bool) (n : ℕ) → IsOpen T s v →
       IsBegun s v block inode → All (λ b. b < 256) name → CommitDoes T s s' v v' block d name replace (Ok n) →
-      IsOpen T s' v' × IsNamed (files_in s v) (files_in s' v') v.memory.clock d name replace n inode
+      IsOpen T s' v' × GetsName (files_in s v) (files_in s' v') v.memory.clock d name replace n inode
 
 module _ (T : Types) (known : AreKnown T) (commits : AreCommits T) (held : List ℕ) (block d : ℕ) (name : List ℕ) (replace : Bool) where
   abbrev Commits : StoreState → StoreState → Volume → Volume → Result ℕ Fault → Type 0
@@ -95,7 +95,7 @@ module _ (T : Types) (known : AreKnown T) (commits : AreCommits T) (held : List 
 
   abbrev pub IsPlaced : StoreState → StoreState → Volume → Volume → ℕ → Inode → Type 0
   IsPlaced old new v v' n inode = IsOpen T new v' × (middle : StoreState) × (w : Volume) × IsAsBeforeButOrphans T held old middle v w
-      × IsNamed (files_in middle w) (files_in new v') v.memory.clock d name replace n inode
+      × GetsName (files_in middle w) (files_in new v') v.memory.clock d name replace n inode
 
   pub placed : (old new : StoreState) (v v' : Volume) (inode : Inode) (n : ℕ) → IsOpen T old v → IsBegun old v block inode → IsUnnamed old v block →
       All (λ b. b < 256) name → MakesFreely Commits T held old new v v' (Ok n) → IsPlaced old new v v' n inode
@@ -106,7 +106,7 @@ module _ (T : Types) (known : AreKnown T) (commits : AreCommits T) (held : List 
       let clock : last.1.memory.clock ≡ v.memory.clock = before.clock in
       let named = commits.named last.0 new last.1 v' block inode d name replace n before.is_open
       (still_begun old last.0 v last.1 block inode begun kept.0 (kept.1).own) wide last.3 in
-      (named.0, last.0, last.1, before, subst (λ t. IsNamed (files_in last.0 last.1) (files_in new v') t d name replace n inode) clock named.1)
+      (named.0, last.0, last.1, before, subst (λ t. GetsName (files_in last.0 last.1) (files_in new v') t d name replace n inode) clock named.1)
 
   -- one that the store doesn't refuse leaves a volume as before
   abbrev Other : Fault → Type 0

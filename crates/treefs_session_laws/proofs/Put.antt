@@ -25,7 +25,7 @@ use Rattle.treefs_puts.specs.Writing.{WriteBegunDoes}
 use Rattle.treefs_session.specs.Puts.{Finishes, Names, PutDoes, WritesAndNames}
 use Rattle.treefs_session.specs.declared.put.Put.{Put}
 use Rattle.treefs_session_laws.specs.Before.{IsUnheld}
-use Rattle.treefs_session_laws.specs.Puts.{IsNamed}
+use Rattle.treefs_session_laws.specs.Puts.{GetsName}
 use Rattle.treefs_session_laws.proofs.Begun.{begins, begins_in_vain, begun_so}
 use Rattle.treefs_session_laws.proofs.Freed.{AreKnown, held_or_not}
 use Rattle.treefs_session_laws.proofs.GivenUp.{given_up}
@@ -102,13 +102,13 @@ module _ (T : Types) (known : AreKnown T) (commits : AreCommits T) (held : List 
 
     abbrev pub IsPut : StoreState → StoreState → Volume → Volume → ℕ → Type 0
     IsPut old new v v' n = IsOpen T new v' × (files : Files) × IsReaped (IsUnheld held) (files_in old v) files
-        × IsNamed files (files_in new v') v.memory.clock put.directory put.name.now put.replace n
+        × GetsName files (files_in new v') v.memory.clock put.directory put.name.now put.replace n
         (new_inode v.memory.clock put.attributes (new_content put.kind 0 put.bytes.now))
 
     finished : (block : ℕ) (old : StoreState) (v : Volume) → IsOpen T old v → (said : Inode) → IsBegun old v block said → (new : StoreState) (v' : Volume) (n : ℕ) →
         Finishes T held put block old new v v' (Ok n) →
         IsOpen T new v' × (files : Files) × Reaped (files_in old v) files
-        × IsNamed files (files_in new v') v.memory.clock put.directory put.name.now put.replace n said
+        × GetsName files (files_in new v') v.memory.clock put.directory put.name.now put.replace n said
     finished block old v is_open said begun new v' n (inl none) = absurd none
     finished block old v is_open said begun new v' n (inr (middle, w, writes, names)) =
         let none = none_written T held _ (drop 384 put.bytes.now) old middle v w (Ok tt) writes none_left in
@@ -120,7 +120,7 @@ module _ (T : Types) (known : AreKnown T) (commits : AreCommits T) (held : List 
         Names_at s u = Names T held put block s new u v' (Ok n)
 
     abbrev Put_with : Files → StoreState → Volume → Volume → ℕ → List ℕ → Type 0
-    Put_with files new v v' n bytes = IsNamed files (files_in new v') v.memory.clock put.directory put.name.now put.replace n
+    Put_with files new v v' n bytes = GetsName files (files_in new v') v.memory.clock put.directory put.name.now put.replace n
         (new_inode v.memory.clock put.attributes (new_content put.kind 0 bytes))
 
     pub is_put : (old new : StoreState) (v v' : Volume) (n : ℕ) → IsOpen T old v → PutDoes T held put old new v v' (Ok n) → IsPut old new v v' n
@@ -133,5 +133,5 @@ module _ (T : Types) (known : AreKnown T) (commits : AreCommits T) (held : List 
           f.1,
           reaped_on (files_in old v) (files_in middle w) f.1 b.1 f.2,
           subst (λ bytes. Put_with f.1 new v v' n bytes) (take_all 384 put.bytes.now small)
-              (subst (λ t. IsNamed f.1 (files_in new v') t put.directory put.name.now put.replace n (inode v)) clock f.3),
+              (subst (λ t. GetsName f.1 (files_in new v') t put.directory put.name.now put.replace n (inode v)) clock f.3),
         )

@@ -26,7 +26,7 @@ ghost use Rattle.treefs_session.specs.Puts.{PutDoes};
 ghost use Rattle.treefs_session.specs.declared.put.Put.{Put};
 ghost use Rattle.treefs_session.specs.declared.calls.bytes.Target.TheVariants.{Begun};
 ghost use Rattle.treefs_session_laws.specs.Before.{IsAsBeforeButOrphans, IsUnheld};
-ghost use Rattle.treefs_session_laws.specs.Puts.{IsNamed};
+ghost use Rattle.treefs_session_laws.specs.Puts.{GetsName};
 
 use crate::law::{flushes_change_no_file, making_room_changes_no_file};
 use treefs_laws::law::{
@@ -95,7 +95,7 @@ pub fn sessions_name_an_inode()
         (replace : Bool) (n : ℕ) → IsOpen T old volume → IsBegun old volume block inode → All (λ b. b < 256) name →
         MakesFreely (λ s s' v v' result. CommitDoes T s s' v v' block d name replace result) T held old new volume volume' (Ok n) →
         IsOpen T new volume' × (middle : StoreState) × (between : Volume) × IsAsBeforeButOrphans T held old middle volume between
-        × IsNamed (files_in middle between) (files_in new volume') volume.memory.clock d name replace n inode }
+        × GetsName (files_in middle between) (files_in new volume') volume.memory.clock d name replace n inode }
     ensures refused { (T : Types) (held : List ℕ) (old new : StoreState) (volume volume' : Volume) (block d : ℕ) (name : List ℕ) (replace : Bool)
         (fault : Fault) → IsOpen T old volume → ((reason : Refusal) → fault ≢ Kernel reason) →
         MakesFreely (λ s s' v v' result. CommitDoes T s s' v v' block d name replace result) T held old new volume volume' (Err fault) →
@@ -119,7 +119,7 @@ pub fn sessions_put_small_files()
         FitsAttributes put.attributes → put.kind ≢ kinds.Directory → All (λ b. b < 256) put.bytes.now → length put.bytes.now ≤ 384 →
         All (λ b. b < 256) put.name.now → PutDoes T held put old new volume volume' (Ok n) →
         IsOpen T new volume' × (files : Files) × IsReaped (IsUnheld held) (files_in old volume) files
-        × IsNamed files (files_in new volume') volume.memory.clock put.directory put.name.now put.replace n
+        × GetsName files (files_in new volume') volume.memory.clock put.directory put.name.now put.replace n
         (new_inode volume.memory.clock put.attributes (new_content put.kind 0 put.bytes.now)) }
 {
     making_room_changes_no_file();
