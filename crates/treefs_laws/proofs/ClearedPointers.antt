@@ -6,7 +6,7 @@ use Rattle.xn_model.specs.Lists.{has_number}
 use Rattle.xn_model.specs.Lives.{StoreState}
 use Rattle.treefs_format.specs.Fields.{fields_of}
 use Rattle.treefs_model.specs.Acts.{Act, Ran}
-use Rattle.treefs_model.specs.Reading.{block_at, bucket_of, byte_of, files_of, key_in}
+use Rattle.treefs_model.specs.Reading.{block_at, bucket_of, byte_of, files_of, key_in, leaf_block}
 use Rattle.treefs_lookup.specs.Readable.{readable}
 use Rattle.treefs_edits.specs.Written.{written}
 use Rattle.treefs_edits.specs.declared.tree.Tree.{Tree}
@@ -17,7 +17,7 @@ use Rattle.treefs_values.specs.Volumes.{IsVolume, IsWholeBlock}
 use Rattle.treefs_values.specs.Ways.{block_numbered}
 use Rattle.treefs_values.proofs.ForCallers.{IsAt, IsDrop, cleared_whole, drop_is, pointers_cleared}
 use Rattle.treefs_laws.proofs.PointersGone.{IsGone, IsOf, IsRoot, IsUnled, buckets_left, bytes_left, fields_stay, key_stays, files_end, files_stay}
-use Rattle.treefs_laws.proofs.PointersGone.{number_stays, others_stay, still_inode}
+use Rattle.treefs_laws.proofs.PointersGone.{number_stays, others_stay, still_inode, still_leaf}
 use Rattle.treefs_laws.proofs.PointersGone.{still_unled, volume_stays}
 use Rattle.treefs_laws.proofs.WaysApart.{IsInodeBlock}
 
@@ -146,6 +146,14 @@ module _ (T : Types) (tree : Tree) (known : IsLayout) (old new : StoreState) (he
       pub still_inode_block : IsInodeBlock node inode (kinds new fs) (readable new fs) r
       still_inode_block = subst (λ t. IsInodeBlock node inode t (readable new fs) r) (sym unread) (subst (λ x. IsInodeBlock node inode type' x r) (sym clears)
           (still_inode node inode top type type' content later v known r r_some r_is stands q way there places are_cleared of no_table))
+
+      pub still_leaves : (i : ℕ) → leaf_block (readable new fs) r i ≢ 0 →
+          (leaf_block (readable new fs) r i ≡ leaf_block content r i) × (kinds new fs (leaf_block content r i) ≡ type (leaf_block content r i))
+      still_leaves i some =
+          let same = ap (λ x. leaf_block x r i) clears in
+          let s = still_leaf node inode top type type' content later v known r r_some r_is stands q way there places are_cleared of no_table i
+          (λ z. some (same ∙ z)) in
+          (same ∙ s.0, ap (λ t. t (leaf_block content r i)) unread ∙ s.1)
 
       pub still_root : IsRoot node inode (kinds new fs) (readable new fs) top r
       still_root = by stands

@@ -30,6 +30,9 @@ use Rattle.treefs_values.specs.Kinds.{kinds}
 use Rattle.treefs_values.specs.KnownLayout.{IsLayout}
 use Rattle.treefs_values.specs.Ways.{IsFirst, IsWay, block_numbered}
 use Rattle.treefs_values.proofs.ForCallers.{IsAt, file_read, inode_numbered, inode_pointer}
+use Rattle.treefs_laws.specs.Unnamed.{IsReadAlike}
+use Rattle.treefs_laws.proofs.AsideCleared.{cleared_alike, cleared_aside}
+use Rattle.treefs_laws.proofs.AsideVolume.{IsAsideIn, StaysAside, alike_same, alike_then}
 use Rattle.treefs_laws.proofs.ClearedPointers.{at_still, still_buckets, still_bytes, still_fields, still_inode_block, still_key, still_numbered, still_others}
 use Rattle.treefs_laws.proofs.ClearedPointers.{still_root}
 use Rattle.treefs_laws.proofs.CutWays.{IsNextCut}
@@ -97,6 +100,8 @@ module _ (T : Types) (tree : Tree) (known : IsLayout) (c : ℕ) (fields : Fields
     pub bytes : (p : ℕ) → (byte_of (readable new fs) c p ≡ byte_of (readable old fs) c p) ⊎ (byte_of (readable new fs) c p ≡ 0)
     pub buckets : (k : ℕ) → (bucket_of (readable new fs) c k ≡ bucket_of (readable old fs) c k) ⊎ (bucket_of (readable new fs) c k ≡ [])
     pub others : (m : ℕ) → block_numbered (readable old fs) top m ≢ c → files_of (readable new fs) top m ≡ files_of (readable old fs) top m
+    pub beside : StaysAside tree old new
+    pub alike_beside : (a : ℕ) → a ≢ c → IsAsideIn old tree a → IsReadAlike (readable old fs) (readable new fs) a
 
   same_state : (s : StoreState) → IsInodeAt s → Leaves s s
   same_state s at = record {
@@ -106,6 +111,8 @@ module _ (T : Types) (tree : Tree) (known : IsLayout) (c : ℕ) (fields : Fields
     bytes = λ p. inl refl;
     buckets = λ k. inl refl;
     others = λ m ne. refl;
+    beside = λ a is. is;
+    alike_beside = λ a ne is. alike_same (readable s fs) a;
   }
 
   after : (old new : StoreState) → Leaves old new → IsInodeAt new
@@ -120,6 +127,9 @@ module _ (T : Types) (tree : Tree) (known : IsLayout) (c : ℕ) (fields : Fields
     buckets = λ k. same_or (bucket_of (readable old fs) c k) (bucket_of (readable middle fs) c k) (bucket_of (readable new fs) c k) [] (first.buckets k)
         (second.buckets k);
     others = λ m ne. second.others m (λ is. ne (sym (first.numbers m) ∙ is)) ∙ first.others m ne;
+    beside = λ a is. second.beside a (first.beside a is);
+    alike_beside = λ a ne is.
+        alike_then (readable old fs) (readable middle fs) (readable new fs) a (first.alike_beside a ne is) (second.alike_beside a ne (first.beside a is));
   }
 
   abbrev Parts : (StoreState → StoreState → Result (Unit {0}) Fault → Type 0) → Type 0
@@ -166,6 +176,11 @@ module _ (T : Types) (tree : Tree) (known : IsLayout) (c : ℕ) (fields : Fields
           at.stands of at.no_table;
       others = still_others T tree known old new at.here c at.is_block q way there places blocks behind over led act no_adds at_block drops writes ran at.there
           at.stands of at.no_table;
+      beside = cleared_aside T tree known old new at.here c at.is_block q way there places blocks behind over led act no_adds at_block drops writes ran at.there
+          at.stands of;
+      alike_beside = λ a ne is.
+          cleared_alike T tree known old new at.here c at.is_block q way there places blocks behind over led act no_adds at_block drops writes ran at.there
+          at.stands of a is ne;
     }
 
     cut_leaves : (cut : Cut) → IsNextCut (readable old fs) c 0 cut → Ran T fs (planned_drop (readable old fs) c cut) old new (Ok tt) → Leaves old new

@@ -136,8 +136,8 @@ module _ (T : Types) (fs node inode top : ℕ) (few : fs < 32) (tree : IsTree T 
     kind_here : kinds new fs b ≡ 0
     kind_here = kinds_are new fs b ∙ ap (λ o. if may_read fs o then type_in o else 0) life_here
 
-    kept : (c : ℕ) → c ≢ b → (kinds new fs c ≡ kinds s fs c) × (readable new fs c ≡ readable s fs c)
-    kept c ne = (
+    pub forget_kept : (c : ℕ) → c ≢ b → (kinds new fs c ≡ kinds s fs c) × (readable new fs c ≡ readable s fs c)
+    forget_kept c ne = (
       kinds_are new fs c ∙ (ap (λ o. if may_read fs o then type_in o else 0) (life_other c ne) ∙ sym (kinds_are s fs c)),
       readable_is new fs c ∙ (ap (λ o. if may_read fs o then life_bytes o else []) (life_other c ne) ∙ sym (readable_is s fs c)),
     )
@@ -145,30 +145,30 @@ module _ (T : Types) (fs node inode top : ℕ) (few : fs < 32) (tree : IsTree T 
     v : IsVolume node inode (kinds s fs) (readable s fs) top
     v = here.volume
 
-    unled : (p o : ℕ) → p ≢ b → IsTrue (has_pointer node inode (kinds s fs p) o) → pointed (readable s fs) p o ≢ b
-    unled p o ne has is =
+    pub forget_unled : (p o : ℕ) → p ≢ b → IsTrue (has_pointer node inode (kinds s fs p) o) → pointed (readable s fs) p o ≢ b
+    forget_unled p o ne has is =
         led_alive T new store node inode tree v.types.0 v.some_types.0 v.some_types.1 fs p o b
-        (subst (λ t. IsTrue (has_pointer node inode t o)) (sym (kept p ne).0) has) some
-        (ap (λ m. if p == 0 then 0 else word_at m o) (kept p ne).1 ∙ is) life_here
+        (subst (λ t. IsTrue (has_pointer node inode t o)) (sym (forget_kept p ne).0) has) some
+        (ap (λ m. if p == 0 then 0 else word_at m o) (forget_kept p ne).1 ∙ is) life_here
 
     no_root : top ≢ b
     no_root same = root_alive T new store node inode tree v.types.0 v.some_types.0 v.some_types.1 fs top few root (ap (life_at new.lives) same ∙ life_here)
 
-    bare : (o : ℕ) → IsTrue (has_pointer node inode (kinds new fs b) o) → ⊥
-    bare o has = of_types node inode (kinds new fs b) o v.some_types.0 v.some_types.1 has kind_here
+    pub forget_bare : (o : ℕ) → IsTrue (has_pointer node inode (kinds new fs b) o) → ⊥
+    forget_bare o has = of_types node inode (kinds new fs b) o v.some_types.0 v.some_types.1 has kind_here
 
     whole : kinds new fs b ≢ 0 → IsWholeBlock (readable new fs b)
     whole ne = absurd (ne kind_here)
 
-    forget_here : Here new
+    pub forget_here : Here new
     forget_here = record {
       store = store;
       root = root;
-      volume = volume_aside node inode top (kinds s fs) (kinds new fs) (readable s fs) (readable new fs) v b no_root kept unled bare whole;
+      volume = volume_aside node inode top (kinds s fs) (kinds new fs) (readable s fs) (readable new fs) v b no_root forget_kept forget_unled forget_bare whole;
     }
 
-    forget_files : files_of (readable new fs) top ≡ files_of (readable s fs) top
-    forget_files = files_aside node inode top (kinds s fs) (kinds new fs) (readable s fs) (readable new fs) v b no_root kept unled bare whole
+    pub forget_files : files_of (readable new fs) top ≡ files_of (readable s fs) top
+    forget_files = files_aside node inode top (kinds s fs) (kinds new fs) (readable s fs) (readable new fs) v b no_root forget_kept forget_unled forget_bare whole
 
   -- Some blocks, each of which may be kept
 

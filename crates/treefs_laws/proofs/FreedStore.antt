@@ -28,6 +28,8 @@ use Rattle.treefs_values.specs.KnownLayout.{IsLayout}
 use Rattle.treefs_values.specs.Volumes.{IsVolume}
 use Rattle.treefs_values.specs.Ways.{IsWay, block_numbered}
 use Rattle.treefs_values.proofs.ForCallers.{IsAt, low_offset}
+use Rattle.treefs_laws.proofs.AsideCleared.{cleared_alike, cleared_aside}
+use Rattle.treefs_laws.proofs.AsideVolume.{KeepsAside}
 use Rattle.treefs_laws.proofs.ClearedBytes.{cleared_patched, freed_place, patch_clears}
 use Rattle.treefs_laws.proofs.ClearedPointers.{at_still, no_file_then, still_files}
 use Rattle.treefs_laws.proofs.FreedBeside.{IsFreedAt, freed_known, holder, holder_there, holder_way, leads, reach_there}
@@ -192,6 +194,14 @@ module _ (T : Types) (tree : Tree) (known : IsLayout)
       pub freed_at_still : IsAt T fs node inode top new
       freed_at_still = at_still T tree known old new here top top_is (holder_steps leaf) way there places blocks None over led (reap_act plan) refl at_holder
           drops writes ran v.root (inl (0, refl)) of
+
+      pub freed_aside : KeepsAside tree old new
+      freed_aside c a = (
+        cleared_aside T tree known old new here top top_is (holder_steps leaf) way there places blocks None over led (reap_act plan) refl at_holder drops
+            writes ran v.root (inl (0, refl)) of c a,
+        cleared_alike T tree known old new here top top_is (holder_steps leaf) way there places blocks None over led (reap_act plan) refl at_holder drops
+            writes ran v.root (inl (0, refl)) of c a a.no_root,
+      )
 
       pub freed_gone : (m : ℕ) → is_freed (freed_beside (readable old tree.fs.number) tree.top numbers leaf) m ≡ true → files_of (readable new fs) top m ≡ None
       freed_gone m e =

@@ -1,8 +1,10 @@
 -- An inode that has no number is given up: no file changes.
 use Rattle.std.proofs.Common.{◌≡◌, ◌≢◌, ℕ, None, Result, Ok, Err, refl, sym, ◌∙◌, ap, inl, inr, subst}
-use Rattle.std.specs.Prelude.{All, Bool, MatchResult}
+use Rattle.std.specs.Prelude.{All, Bool, MatchResult, true}
+use Rattle.store_types.specs.declared.refusal.Refusal.{Refusal}
 use Rattle.xn_model.specs.Calls.{forget_of}
 use Rattle.xn_model.specs.Lives.{StoreState}
+use Rattle.xn_model.specs.Results.{GivesExactly}
 use Rattle.xn_model.specs.Types.{Types}
 use Rattle.xn_model.proofs.ForCallers.{gives_exactly_keeps}
 use Rattle.treefs_format.specs.Fields.{fields_of}
@@ -21,6 +23,7 @@ use Rattle.treefs_laws.specs.Kept.{files_in}
 use Rattle.treefs_laws.specs.Open.{IsOpen}
 use Rattle.treefs_laws.specs.Seen.{seen_files}
 use Rattle.treefs_laws.specs.Unnamed.{IsUnnamed}
+use Rattle.treefs_laws.proofs.AsideVolume.{aside_unnamed, unnamed_aside}
 use Rattle.treefs_laws.proofs.Emptied.{IsInodeAt, Leaves, empties}
 use Rattle.treefs_laws.proofs.Forgotten.{forgot_at, forgot_files}
 use Rattle.treefs_laws.proofs.PointersGone.{IsRoot, IsUnled}
@@ -91,6 +94,9 @@ module _ (T : Types) (known : IsLayout) (old : StoreState) (volume : Volume) (is
         by (inl (n, is)) = absurd (other n (sym (is ∙ leaves.numbers n)))
         by (inr (no_root, unled)) = unled
 
+    pub left_unnamed : IsUnnamed new volume c
+    left_unnamed = aside_unnamed new volume c (leaves.beside c (unnamed_aside T old volume c is_open unnamed))
+
   pub given_up : (new : StoreState) (result : Result Bool Fault) → GiveUpDoes T old new volume c result → Said new
   given_up new result (inl failed) = by result failed
     where
@@ -107,3 +113,19 @@ module _ (T : Types) (known : IsLayout) (old : StoreState) (volume : Volume) (is
     where
       here : IsAt T fs volume.tree.node_type volume.tree.inode_type top middle
       here = (leaves middle (Ok tt) does).at.here
+
+  -- it has no number where it isn't free
+  pub still_unnamed : (new : StoreState) (result : Result Bool Fault) → GiveUpDoes T old new volume c result → result ≢ Ok true → IsUnnamed new volume c
+  still_unnamed new result (inl failed) not_free = by result failed
+    where
+      by : (r : Result Bool Fault) → MatchResult r (λ done. ⊥) (λ fault. TrimDoes T fs volume.memory (kept_nothing c) old new (Err fault)) →
+          IsUnnamed new volume c
+      by (Ok done) none = absurd none
+      by (Err fault) does = left_unnamed new (Err fault) does
+  still_unnamed new result (inr (middle, Ok tt, does, gives, is)) not_free = absurd (not_free is)
+  still_unnamed new result (inr (middle, Err reason, does, gives, is)) not_free =
+      subst (λ s. IsUnnamed s volume c) (sym (kept_by (forget_of T middle fs c) gives)) (left_unnamed middle (Ok tt) does)
+    where
+      kept_by : (r : Result (Unit {0} × StoreState) Refusal) → GivesExactly r middle new (Err reason) → new ≡ middle
+      kept_by (Ok made) gives = absurd (cc gives.0)
+      kept_by (Err other) gives = gives.1

@@ -96,3 +96,14 @@ mod RootMarked
 mod Marked
 pub mod ForCallers
 mod FewBytes
+mod ReadBlocks
+mod AsideTree
+mod AsideVolume
+mod AsideCleared
+mod AsideTimes
+mod AsideBegun
+mod AsideEdits
+mod AsideTrims
+mod AsideRun
+mod AsideWritten
+mod BegunWritten

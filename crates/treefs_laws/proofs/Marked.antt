@@ -25,12 +25,15 @@ use Rattle.treefs.specs.declared.volume.Volume.{Volume}
 use Rattle.treefs_values.specs.Kinds.{kinds}
 use Rattle.treefs_values.specs.Values.{KeepsBlocks}
 use Rattle.treefs_values.specs.Volumes.{IsVolume, IsWholeBlock}
+use Rattle.treefs_values.specs.Ways.{SamePointers}
 use Rattle.treefs_values.proofs.ForCallers.{acts_read}
 use Rattle.treefs_laws.specs.Kept.{files_in}
 use Rattle.treefs_laws.specs.Open.{IsOpen}
 use Rattle.treefs_laws.specs.Seen.{seen_files}
+use Rattle.treefs_laws.specs.Unnamed.{KeepsUnnamed}
+use Rattle.treefs_laws.proofs.AsideVolume.{alike_same, steady_keeps, unnamed_kept}
 use Rattle.treefs_laws.proofs.Planned.{ran_acts}
-use Rattle.treefs_laws.proofs.RootMarked.{marked_files, marked_volume}
+use Rattle.treefs_laws.proofs.RootMarked.{marked_files, marked_keeps, marked_volume}
 use Rattle.treefs_laws.proofs.StillOpen.{ran_root}
 use Rattle.treefs_laws.proofs.TimesWritten.{refused_whole}
 
@@ -69,7 +72,7 @@ module _ (T : Types) (old new : StoreState) (volume : Volume) (clean : Bool) (is
   top = volume.tree.top
 
   abbrev Said : StoreState → Type 0
-  Said s = IsOpen T s volume × (files_in s volume ≡ files_in old volume)
+  Said s = IsOpen T s volume × (files_in s volume ≡ files_in old volume) × KeepsUnnamed old s volume volume
 
   abbrev content : ℕ → List ℕ
   content = readable old fs
@@ -112,9 +115,7 @@ module _ (T : Types) (old new : StoreState) (volume : Volume) (clean : Bool) (is
     record {
       kept = record {
         store = read.0;
-        bytes = subst (λ t. IsVolume volume.tree.node_type volume.tree.inode_type t (readable new fs) top) (sym read.2)
-            (subst (λ m. IsVolume volume.tree.node_type volume.tree.inode_type (kinds old fs) m top) (sym read.1)
-            (marked_volume volume.tree.node_type volume.tree.inode_type top (kinds old fs) content later v others words same_key whole));
+        bytes = bytes;
         session = is_open.kept.session;
       };
       few = is_open.few;
@@ -124,10 +125,20 @@ module _ (T : Types) (old new : StoreState) (volume : Volume) (clean : Bool) (is
       touched = subst (λ (f : Files). All (λ touch. f touch.number ≢ None) volume.memory.touched) (sym files) is_open.touched;
     },
     files,
+    unnamed_kept T old new volume volume is_open refl
+        (steady_keeps volume.tree old new read.2
+        (subst (SamePointers volume.tree.node_type volume.tree.inode_type (kinds old fs) content) (sym read.1)
+        (marked_keeps volume.tree.node_type volume.tree.inode_type top (kinds old fs) content later v others words same_key whole))
+        (λ b other. ap (λ m. m b) read.1 ∙ others b (λ same. other 0 (sym same))) bytes),
   )
     where
       read : IsConsistent T new × (readable new fs ≡ later) × (kinds new fs ≡ kinds old fs)
       read = acts_read T fs (act ∷ []) old new is_open.kept.store keep ran
+
+      bytes : IsVolume volume.tree.node_type volume.tree.inode_type (kinds new fs) (readable new fs) top
+      bytes = subst (λ t. IsVolume volume.tree.node_type volume.tree.inode_type t (readable new fs) top) (sym read.2)
+          (subst (λ m. IsVolume volume.tree.node_type volume.tree.inode_type (kinds old fs) m top) (sym read.1)
+          (marked_volume volume.tree.node_type volume.tree.inode_type top (kinds old fs) content later v others words same_key whole))
 
       files : files_in new volume ≡ files_in old volume
       files = ap (seen_files volume.memory.touched) (ap (λ m. files_of m top) read.1
@@ -135,4 +146,4 @@ module _ (T : Types) (old new : StoreState) (volume : Volume) (clean : Bool) (is
 
   pub mark_said : (result : Result (Unit {0}) Fault) → Does T fs (mark_plan top clean) old new result → Said new
   mark_said (Ok tt) does = made (ran_acts T fs (act ∷ []) old new does)
-  mark_said (Err fault) does = subst Said (sym (refused_whole T fs act old new fault does)) (is_open, refl)
+  mark_said (Err fault) does = subst Said (sym (refused_whole T fs act old new fault does)) (is_open, refl, λ block unnamed. (unnamed, alike_same content block))

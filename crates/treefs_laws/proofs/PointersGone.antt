@@ -18,6 +18,7 @@ use Rattle.treefs_values.specs.KnownLayout.{IsLayout}
 use Rattle.treefs_values.specs.Volumes.{IsDirectory, IsVolume, IsWholeBlock}
 use Rattle.treefs_values.specs.Ways.{ArePointersApart, IsTyped, IsWay, block_numbered}
 use Rattle.treefs_values.proofs.ForCallers.{IsAlike, file_read, in_leaf, inode_numbered}
+use Rattle.treefs_laws.specs.Unnamed.{IsReadAlike}
 use Rattle.treefs_laws.proofs.SameValues.{fewer_buckets, inode_alike}
 use Rattle.treefs_laws.proofs.WaysApart.{IsInodeBlock, below_root, file_none, inodes_apart, no_top, none_below, not_root, numbered_block, of_types, one_height}
 use Rattle.treefs_laws.proofs.WaysApart.{other_type, same_way, steps_way, way_pointer}
@@ -322,6 +323,23 @@ module _ (node inode top : ℕ) (type type' : ℕ → ℕ) (old new : ℕ → Li
     | inr s ↦ no_file new m m_some s.0
   ]
 
+  -- an inode that is left may lack some of its blocks
+  inode_left : (a : ℕ) → Inode a → Kept a → IsInodeBlock node inode type' new a
+  inode_left a a_is kept = record {
+    typed = kept.0 ∙ a_is.typed;
+    nodes = λ l os way some. elim (shrunk a (λ there. (a_is, kept)) (suc l) os way) [
+      | inl s ↦ let there : at a os ≢ 0 = λ z. some (s.0 ∙ z) in ap type' s.0 ∙ ((s.1 there).0 ∙ a_is.nodes l os way there)
+      | inr s ↦ absurd (some s.0)
+    ];
+  }
+
+  leaf_left : (a : ℕ) → Inode a → Kept a → (i : ℕ) → leaf_block new a i ≢ 0 →
+      (leaf_block new a i ≡ leaf_block old a i) × (type' (leaf_block old a i) ≡ type (leaf_block old a i))
+  leaf_left a a_is kept i some = elim (shrunk a (λ there. (a_is, kept)) 0 (steps i) (steps_way i)) [
+    | inl s ↦ (s.0, (s.1 (λ z. some (s.0 ∙ z))).0)
+    | inr s ↦ absurd (some s.0)
+  ]
+
   -- of an inode, whose tree gets fewer pointers
   module _ (no_table : r ≢ top) where
     r_kept : Kept r
@@ -344,12 +362,41 @@ module _ (node inode top : ℕ) (type type' : ℕ → ℕ) (old new : ℕ → Li
     ]
 
     pub still_inode : IsInodeBlock node inode type' new r
-    still_inode = record {
-      typed = r_kept.0 ∙ r_is.typed;
-      nodes = λ l os way some. elim (shrunk r (λ there. (r_is, r_kept)) (suc l) os way) [
-        | inl s ↦ let there : at r os ≢ 0 = λ z. some (s.0 ∙ z) in ap type' s.0 ∙ ((s.1 there).0 ∙ r_is.nodes l os way there)
-        | inr s ↦ absurd (some s.0)
-      ];
+    still_inode = inode_left r r_is r_kept
+
+    pub still_leaf : (i : ℕ) → leaf_block new r i ≢ 0 →
+        (leaf_block new r i ≡ leaf_block old r i) × (type' (leaf_block old r i) ≡ type (leaf_block old r i))
+    still_leaf = leaf_left r r_is r_kept
+
+  -- one that no pointer leads to is left too
+  module _ (a : ℕ) (a_is : IsInodeBlock node inode type old a) (unled : IsUnled node inode type old a) where
+    a_kept : Kept a
+    a_kept = elim (kept_or_lost a) [ inl k ↦ k | inr lost ↦ absurd (unled holder lost.offset lost.pointer lost.led) ]
+
+    pub unled_inode : IsInodeBlock node inode type' new a
+    unled_inode = inode_left a a_is a_kept
+
+    pub unled_leaf : (i : ℕ) → leaf_block new a i ≢ 0 →
+        (leaf_block new a i ≡ leaf_block old a i) × (type' (leaf_block old a i) ≡ type (leaf_block old a i))
+    unled_leaf = leaf_left a a_is a_kept
+
+    not_holder : a ≢ r → a ≢ holder
+    not_holder other = by q way_to holder_some
+      where
+        by : (q : List ℕ) → IsHolderWay q → at r q ≢ 0 → a ≢ at r q
+        by [] to some is = other is
+        by (o ∷ os) (inl none) some is = absurd (cc none)
+        by (o ∷ os) (inr (l, way)) some is =
+            unled (at r os) o (way_pointer node inode top type old v r r_is (suc l) o os way (λ z. some (nowhere old (at r os) o z))) (sym is)
+
+    unled_way : a ≢ r → (i : ℕ) → (leaf_block new a i ≡ leaf_block old a i) × (leaf_block old a i ≢ 0 → Kept (leaf_block old a i))
+    unled_way other i = elim (shrunk a (λ there. (a_is, a_kept)) 0 (steps i) (steps_way i)) [ inl s ↦ s | inr s ↦ absurd (other s.1.0) ]
+
+    pub unled_alike : a ≢ top → a ≢ r → IsReadAlike old new a
+    unled_alike no_table other = record {
+      own = elim a_kept.1 [ inl here ↦ absurd (not_holder other here) | inr bytes ↦ bytes ];
+      leaves = λ i. (unled_way other i).0;
+      bytes = λ i some. leaf_bytes a i a_is no_table some ((unled_way other i).1 some);
     }
 
   -- It is a volume still

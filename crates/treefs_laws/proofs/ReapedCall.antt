@@ -23,6 +23,8 @@ use Rattle.treefs_values.specs.KnownLayout.{IsLayout}
 use Rattle.treefs_laws.specs.Kept.{files_in}
 use Rattle.treefs_laws.specs.Open.{IsOpen}
 use Rattle.treefs_laws.specs.Orphans.{IsOrphan, IsReaped, WaitLess, without_orphans}
+use Rattle.treefs_laws.specs.Unnamed.{KeepsUnnamed}
+use Rattle.treefs_laws.proofs.AsideVolume.{unnamed_kept, unnamed_then}
 use Rattle.treefs_laws.proofs.OrphansFound.{orphan_here, orphan_is}
 use Rattle.treefs_laws.proofs.Planned.{ran_acts}
 use Rattle.treefs_laws.proofs.ReapedFiles.{among_or_not, gone_stays, orphan_then, reaped_then, reaped_without, unseen_orphan}
@@ -40,7 +42,7 @@ module _ (T : Types) (known : IsLayout)
   abbrev Said : StoreState → StoreState → Volume → Volume → Type 0
   Said old new volume volume' = IsOpen T new volume' × IsReaped (Contains numbers) (files_in old volume) (files_in new volume')
       × (volume'.tree ≡ volume.tree) × (volume'.memory.clock ≡ volume.memory.clock)
-      × WaitLess volume.memory.orphans volume'.memory.orphans (files_in new volume')
+      × WaitLess volume.memory.orphans volume'.memory.orphans (files_in new volume') × KeepsUnnamed old new volume volume'
 
   -- no number waits less
   wait_same : (orphans orphans' : List ℕ) (files : Files) → orphans' ≡ orphans → WaitLess orphans orphans' files
@@ -65,6 +67,7 @@ module _ (T : Types) (known : IsLayout)
         | inr none ↦ inr (gone_stays (Contains numbers) (among_or_not numbers) (files_in middle w) (files_in new x) second.1 n none)
       ],
     ),
+    unnamed_then old middle new v w x first.5 second.5,
   )
 
   module _ (old new : StoreState) (volume : Volume) (is_open : IsOpen T old volume) where
@@ -85,6 +88,7 @@ module _ (T : Types) (known : IsLayout)
           refl,
           ap (λ (m : Memory). m.clock) is,
           wait_same volume.memory.orphans memory'.orphans (files_in new (with_memory volume memory')) (ap (λ (m : Memory). m.orphans) is),
+          unnamed_kept T old new volume (with_memory volume memory') is_open refl s.2,
         )
 
     -- One is freed, with those beside it
@@ -129,7 +133,14 @@ module _ (T : Types) (known : IsLayout)
             let gone = own_gone T known numbers old new volume is_open beside (leaf_of_inode number) own plan is ran
             (subst (Contains numbers) number_is among) in
             subst (λ m. Said old new volume (with_memory volume m) × Gone old new volume (with_memory volume m) result number) (sym memory_so) (
-              (said.0, said.1, refl, refl, freed_waits T known numbers old new volume is_open beside (leaf_of_inode number) own plan is ran),
+              (
+                said.0,
+                said.1,
+                refl,
+                refl,
+                freed_waits T known numbers old new volume is_open beside (leaf_of_inode number) own plan is ran,
+                unnamed_kept T old new volume (with_memory volume _) is_open refl said.2,
+              ),
               λ done orphan. ap (files_in new (with_memory volume (freed_memory volume.memory _))) number_is ∙ gone,
             )
 
@@ -177,12 +188,24 @@ module _ (T : Types) (known : IsLayout)
       by : (r : Result (Unit {0}) Fault) → MatchResult r (λ done. ⊥) (λ fault. EmptiesOne T volume.tree volume.memory number old new (Err fault)) →
           Said old new volume volume
       by (Ok done) none = absurd none
-      by (Err fault) does = let s = one_emptied T known numbers old new volume is_open number (sub number (Contains-head number left)) (Err fault) does in
-          (s.0, s.1, refl, refl, wait_same volume.memory.orphans volume.memory.orphans (files_in new volume) refl)
+      by (Err fault) does = let s = one_emptied T known numbers old new volume is_open number (sub number (Contains-head number left)) (Err fault) does in (
+        s.0,
+        s.1,
+        refl,
+        refl,
+        wait_same volume.memory.orphans volume.memory.orphans (files_in new volume) refl,
+        unnamed_kept T old new volume volume is_open refl s.2,
+      )
   empties_said (number ∷ left) sub old new volume is_open result (inr (middle, one, rest)) =
       let s = one_emptied T known numbers old middle volume is_open number (sub number (Contains-head number left)) (Ok tt) one in
-      said_then old middle new volume volume volume
-      (s.0, s.1, refl, refl, wait_same volume.memory.orphans volume.memory.orphans (files_in middle volume) refl)
+      said_then old middle new volume volume volume (
+        s.0,
+        s.1,
+        refl,
+        refl,
+        wait_same volume.memory.orphans volume.memory.orphans (files_in middle volume) refl,
+        unnamed_kept T old middle volume volume is_open refl s.2,
+      )
       (empties_said left (λ n has. sub n (Contains-tail number left n has)) middle new volume s.0 result rest)
 
   abbrev AllGone : List ℕ → StoreState → StoreState → Volume → Volume → Result (Unit {0}) Fault → Type 0
@@ -265,8 +288,8 @@ module _ (T : Types) (known : IsLayout)
 
     pub reap_said : ReapDoes T old new volume volume' numbers result →
         IsOpen T new volume' × IsReaped (Contains numbers) (files_in old volume) (files_in new volume') × (volume'.tree ≡ volume.tree)
-        × (volume'.memory.clock ≡ volume.memory.clock)
-    reap_said does = let s = (call_said does).0 in (s.0, s.1, s.2, s.3)
+        × (volume'.memory.clock ≡ volume.memory.clock) × KeepsUnnamed old new volume volume'
+    reap_said does = let s = (call_said does).0 in (s.0, s.1, s.2, s.3, s.5)
 
     pub reap_waits : ReapDoes T old new volume volume' numbers result → WaitLess volume.memory.orphans volume'.memory.orphans (files_in new volume')
     reap_waits does = (call_said does).0.4

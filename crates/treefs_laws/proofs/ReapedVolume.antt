@@ -31,13 +31,14 @@ use Rattle.treefs_laws.specs.Kept.{files_in}
 use Rattle.treefs_laws.specs.Open.{IsOpen}
 use Rattle.treefs_laws.specs.Orphans.{IsLeftOf, IsOrphan, IsReaped, WaitLess}
 use Rattle.treefs_laws.specs.Seen.{seen_files, seen_inode}
+use Rattle.treefs_laws.proofs.AsideVolume.{IsAsideIn, KeepsAside, alike_same}
 use Rattle.treefs_laws.proofs.Emptied.{IsInodeAt, Leaves, empties, says}
 use Rattle.treefs_laws.proofs.FreedMemory.{all_left, session_left, times_left}
-use Rattle.treefs_laws.proofs.FreedStore.{freed_at_still, freed_gone, freed_orphan, others_there, own_freed}
+use Rattle.treefs_laws.proofs.FreedStore.{freed_aside, freed_at_still, freed_gone, freed_orphan, others_there, own_freed}
 use Rattle.treefs_laws.proofs.OrphansFound.{IsOrphanFound, orphan_is}
 use Rattle.treefs_laws.proofs.ReapedFiles.{among_or_not, reaped_same, reaped_seen, whole_left}
 use Rattle.treefs_laws.proofs.SameValues.{content_left}
-use Rattle.treefs_laws.proofs.WaysApart.{file_none, inodes_apart, no_top, numbered_block}
+use Rattle.treefs_laws.proofs.WaysApart.{file_none, inodes_apart, no_top, numbered_block, numbered_led}
 
 some_none : {A : Type 0} (x : A) → ◌≡◌ {A = Option A} (Some x) None → ⊥
 some_none x e = absurd (cc e)
@@ -75,14 +76,14 @@ module _ (T : Types) (known : IsLayout) (numbers : List ℕ) (old new : StoreSta
 
   -- the volume then, with its session's memory
   abbrev Said : Volume → Type 0
-  Said volume' = IsOpen T new volume' × IsReaped (Contains numbers) (files_in old volume) (files_in new volume')
+  Said volume' = IsOpen T new volume' × IsReaped (Contains numbers) (files_in old volume) (files_in new volume') × KeepsAside volume.tree old new
 
   pub same_volume : new ≡ old → (volume' : Volume) → volume' ≡ volume →
-      IsOpen T new volume' × IsReaped (Contains numbers) (files_in old volume) (files_in new volume')
+      IsOpen T new volume' × IsReaped (Contains numbers) (files_in old volume) (files_in new volume') × KeepsAside volume.tree old new
   same_volume same volume' is =
-      subst (λ s. IsOpen T s volume' × IsReaped (Contains numbers) (files_in old volume) (files_in s volume')) (sym same)
-      (subst (λ w. IsOpen T old w × IsReaped (Contains numbers) (files_in old volume) (files_in old w)) (sym is)
-      (is_open, reaped_same (Contains numbers) (among_or_not numbers) (files_in old volume)))
+      subst (λ s. IsOpen T s volume' × IsReaped (Contains numbers) (files_in old volume) (files_in s volume') × KeepsAside volume.tree old s) (sym same)
+      (subst (λ w. IsOpen T old w × IsReaped (Contains numbers) (files_in old volume) (files_in old w) × KeepsAside volume.tree old old) (sym is)
+      (is_open, reaped_same (Contains numbers) (among_or_not numbers) (files_in old volume), λ a aside. (aside, alike_same content a)))
 
   orphan_in_files : (n : ℕ) → Contains numbers n → IsOrphanFound content top n → IsOrphan (Contains numbers) files_before n
   orphan_in_files n among o = record { among = among; inode = o.inode; there = o.there; unlinked = o.no_links }
@@ -165,6 +166,11 @@ module _ (T : Types) (known : IsLayout) (numbers : List ℕ) (old new : StoreSta
         | inr ne ↦ was (sym (others_same m ne) ∙ none)
       ]
 
+      -- what no number leads to is another
+      not_own : (a : ℕ) → IsAsideIn old volume.tree a → a ≢ c
+      not_own a aside same = numbered_led volume.tree.node_type volume.tree.inode_type top (kinds old fs) content is_open.kept.bytes a aside.there aside.no_root
+          aside.unled number (sym same)
+
       pub emptied_said : Said volume
       emptied_said = (
         record {
@@ -179,6 +185,7 @@ module _ (T : Types) (known : IsLayout) (numbers : List ℕ) (old new : StoreSta
               volume.memory.touched is_open.touched;
         },
         reaped_seen (Contains numbers) volume.memory.touched volume.memory.touched files_before files_now (λ m. inr (λ times. refl)) emptied,
+        λ a aside. (leaves.beside a aside, leaves.alike_beside a (not_own a aside) aside),
       )
 
   pub one_emptied : (number : ℕ) → Contains numbers number → (result : Result (Unit {0}) Fault) →
@@ -264,6 +271,7 @@ module _ (T : Types) (known : IsLayout) (numbers : List ℕ) (old new : StoreSta
               volume.memory.touched is_open.touched;
         },
         reaped_seen (Contains numbers) volume.memory.touched memory'.touched files_before files_now (λ m. times_stay m (freed_so m) refl) reaped,
+        freed_aside T volume.tree known beside old new at_old numbers leaf own plan is ran,
       )
 
       pub own_gone : Contains numbers (leaf + 1) →

@@ -23,8 +23,8 @@ module _ (node inode top : ℕ) (type : ℕ → ℕ) (old new : ℕ → List ℕ
   abbrev block : ℕ → ℕ
   block n = block_numbered old top n
 
-  keeps : SamePointers node inode type old new
-  keeps p o has = elim (cases_eq p top) [
+  pub marked_keeps : SamePointers node inode type old new
+  marked_keeps p o has = elim (cases_eq p top) [
     | inl same ↦
         let at = inode_offset node inode (type p) o v.types.0 (ap type same ∙ v.typed.inodes 0 v.root) has in
         ap (λ x. pointed new x o) same ∙ (ap (λ w. if top == 0 then 0 else w) (words o at.1) ∙ sym (ap (λ x. pointed old x o) same))
@@ -38,13 +38,13 @@ module _ (node inode top : ℕ) (type : ℕ → ℕ) (old new : ℕ → List ℕ
     way_same l [] way = absurd way
     way_same l (o ∷ []) way = elim (cases_eq (block n) 0) [
       | inl z ↦ none_pointed new (block n) o z ∙ sym (none_pointed old (block n) o z)
-      | inr some ↦ keeps (block n) o (inode_pointer node inode (type (block n)) o l (v.typed.inodes n some) way)
+      | inr some ↦ marked_keeps (block n) o (inode_pointer node inode (type (block n)) o l (v.typed.inodes n some) way)
     ]
     way_same l (o ∷ p ∷ os) way =
         let q : ℕ = block_at old (block n) (p ∷ os) in
         ap (λ c. pointed new c o) (way_same (suc l) (p ∷ os) way.3) ∙ elim (cases_eq q 0) [
           | inl z ↦ none_pointed new q o z ∙ sym (none_pointed old q o z)
-          | inr some ↦ keeps q o (node_pointer node inode (type q) o way.0 (v.typed.nodes n l (p ∷ os) way.3 some) way.1 way.2)
+          | inr some ↦ marked_keeps q o (node_pointer node inode (type q) o way.0 (v.typed.nodes n l (p ∷ os) way.3 some) way.1 way.2)
         ]
 
     -- none leads to the root block
@@ -62,7 +62,7 @@ module _ (node inode top : ℕ) (type : ℕ → ℕ) (old new : ℕ → List ℕ
     leaf_same i = way_same 0 (steps i) (steps_way i)
 
   number_same : (n : ℕ) → block_numbered new top n ≡ block n
-  number_same = numbered_same node inode top type old new v.typed keeps
+  number_same = numbered_same node inode top type old new v.typed marked_keeps
 
   -- Inodes
 
@@ -119,8 +119,8 @@ module _ (node inode top : ℕ) (type : ℕ → ℕ) (old new : ℕ → List ℕ
     root = v.root;
     typed = typed;
     apart = record {
-      once = λ p q o o' has has' some same. v.apart.once p q o o' has has' (λ z. some (keeps p o has ∙ z)) (sym (keeps p o has) ∙ (same ∙ keeps q o' has'));
-      root = λ p o has is. v.apart.root p o has (sym (keeps p o has) ∙ is);
+      once = λ p q o o' has has' some same. v.apart.once p q o o' has has' (λ z. some (marked_keeps p o has ∙ z)) (sym (marked_keeps p o has) ∙ (same ∙ marked_keeps q o' has'));
+      root = λ p o has is. v.apart.root p o has (sym (marked_keeps p o has) ∙ is);
     };
     blocks = λ b some. elim (cases_eq b top) [
       | inl same ↦ subst (λ x. IsWholeBlock (new x)) (sym same) whole

@@ -44,6 +44,8 @@ use Rattle.treefs_laws.specs.Kept.{files_in}
 use Rattle.treefs_laws.specs.Open.{IsOpen}
 use Rattle.treefs_laws.specs.Seen.{seen_files}
 use Rattle.treefs_laws.specs.Space.{LacksSpace, LeavesFiles}
+use Rattle.treefs_laws.specs.Unnamed.{KeepsUnnamed}
+use Rattle.treefs_laws.proofs.AsideVolume.{alike_same, read_keeps}
 use Rattle.treefs_laws.proofs.ForgottenStarts.{SameLives, planned_same}
 use Rattle.treefs_laws.proofs.Planned.{same_fault}
 
@@ -85,8 +87,9 @@ module _ (T : Types) (old new : StoreState) (volume volume' : Volume) (is_open :
 
     leaves : volume' ≡ volume → LeavesFiles T old new volume volume'
     leaves is =
-        let there = subst (λ v. IsOpen T new v × (files_in new v ≡ files_in old volume)) (sym is) (still_open, files) in
-        (is, there.0, there.1)
+        let there = subst (λ v. IsOpen T new v × (files_in new v ≡ files_in old volume) × KeepsUnnamed old new volume v) (sym is)
+        (still_open, files, read_keeps T old new volume is_open types reads) in
+        (is, there.0, there.1, there.2)
 
   -- a plan, or a planner's fault
   pub leaves_planned : (planned : Result Plan Fault) (fault : Fault) → LacksSpace fault → DoesPlanned T fs planned old new (Err fault) → volume' ≡ volume →
@@ -159,18 +162,15 @@ module _ (T : Types) (state state' : StoreState) (volume volume' : Volume) (is_o
       by (Err other) does is = leaves_planned T state state' volume volume' is_open (Err other) fault space does is
 
 -- a block that isn't begun
-module _ (T : Types) (state state' : StoreState) (volume : Volume) (is_open : IsOpen T state volume) (fault : Fault) (space : LacksSpace fault) where
+module _ (T : Types) (state state' : StoreState) (volume : Volume) (fault : Fault) where
   not_begun : (r : Result ((ℕ × ℕ) × StoreState) Refusal) (reason : Refusal) → Gives r state state' (Err reason) → state' ≡ state
   not_begun (Ok made) reason (inl done) = absurd (cc done.0)
   not_begun (Ok made) reason (inr none) = none.1
   not_begun (Err other) reason none = none.1
 
-  same_leaves : state' ≡ state → LeavesFiles T state state' volume volume
-  same_leaves same = subst (λ s. LeavesFiles T state s volume volume) (sym same) (refl, is_open, refl)
-
-  pub begin_leaves : (kind : Kind) (attributes : Attributes) (head : List ℕ) → BeginDoes T state state' volume kind attributes head (Err fault) →
-      LeavesFiles T state state' volume volume
-  begin_leaves kind attributes head does = by (has_room state volume.tree.fs.number (length volume.memory.touched) 2 []) does
+  pub begin_refused : (kind : Kind) (attributes : Attributes) (head : List ℕ) → BeginDoes T state state' volume kind attributes head (Err fault) →
+      state' ≡ state
+  begin_refused kind attributes head does = by (has_room state volume.tree.fs.number (length volume.memory.touched) 2 []) does
     where
       start : Start
       start = record {
@@ -179,7 +179,11 @@ module _ (T : Types) (state state' : StoreState) (volume : Volume) (is_open : Is
       }
 
       by : (t : Bool) → MatchBool t (BeginsOne T volume.tree.fs.number start state state' (Err fault))
-          ((◌≡◌ {A = Result ℕ Fault} (Err fault) (Err Full)) × (state' ≡ state)) →
-          LeavesFiles T state state' volume volume
-      by true (reason, begun, is) = same_leaves (not_begun (init_of T state volume.tree.fs.number start.ty start.bytes) reason begun)
-      by false full = same_leaves full.1
+          ((◌≡◌ {A = Result ℕ Fault} (Err fault) (Err Full)) × (state' ≡ state)) → state' ≡ state
+      by true (reason, begun, is) = not_begun (init_of T state volume.tree.fs.number start.ty start.bytes) reason begun
+      by false full = full.1
+
+  pub begin_leaves : IsOpen T state volume → (kind : Kind) (attributes : Attributes) (head : List ℕ) →
+      BeginDoes T state state' volume kind attributes head (Err fault) → LeavesFiles T state state' volume volume
+  begin_leaves is_open kind attributes head does =
+      subst (λ s. LeavesFiles T state s volume volume) (sym (begin_refused kind attributes head does)) (refl, is_open, refl, λ block unnamed. (unnamed, alike_same (readable state volume.tree.fs.number) block))

@@ -1,13 +1,13 @@
--- Times that were only touched are written: no file changes.
+-- Times that were only touched are written: no file changes, and no pointer.
 use Rattle.std.proofs.Common.{◌≡◌, ◌≢◌, ◌⊎◌, ℕ, Bool, true, false, List, [], ◌∷◌, Option, None, Some, Result, Ok, Err, refl, sym, ◌∙◌, ap, inl, inr, subst, if◌then◌else◌}
-use Rattle.std.specs.Prelude.{All, MatchResult, fold, nat_lt, option_map}
+use Rattle.std.specs.Prelude.{All, IsTrue, MatchResult, fold, nat_lt, option_map}
 use Rattle.std.specs.Option.{ok_or}
-use Rattle.std.proofs.lemmas.Bool.{cases_eq}
+use Rattle.std.proofs.lemmas.Bool.{cases_eq, ne_eqb}
 use Rattle.std.proofs.lemmas.List.Elements.{All-cons, All-head, All-nil, All-tail}
 use Rattle.xn_model.specs.Types.{Types}
 use Rattle.xn_model.specs.Lives.{StoreState}
 use Rattle.xn_model.specs.PendingIn.{pending_in_of}
-use Rattle.xn_model.specs.Calls.{propose_of}
+use Rattle.xn_model.specs.Calls.{patched, propose_of}
 use Rattle.xn_model.specs.Results.{Gives}
 use Rattle.store_types.specs.declared.refusal.Refusal.{Refusal}
 use Rattle.treefs_format.specs.Fields.{IsInRange, changed, fields_of}
@@ -17,6 +17,7 @@ use Rattle.treefs_model.specs.Acts.{Act, Ran, changes_act, edit_in}
 use Rattle.treefs_model.specs.Changes.{moved_to}
 use Rattle.treefs_model.specs.Files.{Content, Files, Inode, and_then, changed_at}
 use Rattle.treefs_model.specs.Reading.{files_of, inode_with}
+use Rattle.treefs_model.specs.Trees.{has_pointer}
 use Rattle.treefs_model.specs.declared.fault.Fault.{Fault}
 use Rattle.treefs_model.specs.declared.fault.Fault.TheVariants.{Full, NoEntry}
 use Rattle.treefs_lookup.specs.Inodes.{inode_found}
@@ -37,8 +38,8 @@ use Rattle.treefs_values.specs.KnownLayout.{IsLayout}
 use Rattle.treefs_values.specs.Kinds.{kinds}
 use Rattle.treefs_values.specs.Values.{AreChanges, KeepsBlocks, found_value}
 use Rattle.treefs_values.specs.Volumes.{IsVolume}
-use Rattle.treefs_values.specs.Ways.{block_numbered}
-use Rattle.treefs_values.proofs.ForCallers.{IsAt, IsFound, acts_read, fields_changed, found_inode, inodes_found}
+use Rattle.treefs_values.specs.Ways.{SamePointers, block_numbered}
+use Rattle.treefs_values.proofs.ForCallers.{IsAt, IsFound, acts_read, changes_keep, fields_changed, found_inode, inodes_found, numbered_same}
 use Rattle.treefs_laws.specs.Kept.{IsKept, files_in}
 use Rattle.treefs_laws.specs.Open.{IsOpen}
 use Rattle.treefs_laws.specs.Seen.{AreTimes, AreTouchedOnce, IsSession, seen_files, seen_inode, with_times}
@@ -144,11 +145,32 @@ module _ (T : Types) (tree : Tree) (known : IsLayout) where
   abbrev files_at : StoreState → Files
   files_at s = files_of (readable s fs) top
 
+  abbrev pub HasNoNumber : StoreState → ℕ → Type 0
+  HasNoNumber s b = (m : ℕ) → block_numbered (readable s fs) top m ≢ b
+
+  -- no type changes, and no pointer, and no block but those of inodes with numbers
+  abbrev pub IsSteady : StoreState → StoreState → Type 0
+  IsSteady old new = (kinds new fs ≡ kinds old fs) × SamePointers tree.node_type tree.inode_type (kinds old fs) (readable old fs) (readable new fs)
+      × ((b : ℕ) → HasNoNumber old b → readable new fs b ≡ readable old fs b)
+
+  steady_same : (s : StoreState) → IsSteady s s
+  steady_same s = (refl, λ p o has. refl, λ b other. refl)
+
+  steady_then : (old middle new : StoreState) → At old → IsSteady old middle → IsSteady middle new → IsSteady old new
+  steady_then old middle new here first second = (
+    second.0 ∙ first.0,
+    λ p o has. second.1 p o (subst (λ t. IsTrue (has_pointer tree.node_type tree.inode_type (t p) o)) (sym first.0) has) ∙ first.1 p o has,
+    λ b other. second.2 b (λ m same. other m (sym (numbers m) ∙ same)) ∙ first.2 b other,
+  )
+    where
+      numbers : (m : ℕ) → block_numbered (readable middle fs) top m ≡ block_numbered (readable old fs) top m
+      numbers = numbered_same tree.node_type tree.inode_type top (kinds old fs) (readable old fs) (readable middle fs) here.volume.typed first.1
+
   -- the times of one inode are written
   module _ (touch : Touched) (rest : List Touched) (old new : StoreState) (here : At old) (fit : AreTimes touch.times)
       (lacks : All (λ other. other.number ≢ touch.number) rest) where
     abbrev Said : Type 0
-    Said = At new × (seen_files rest (files_at new) ≡ seen_files (touch ∷ rest) (files_at old))
+    Said = At new × (seen_files rest (files_at new) ≡ seen_files (touch ∷ rest) (files_at old)) × IsSteady old new
 
     module _ (x : Found) (x_is : inode_found (readable old fs) top touch.number ≡ Ok x) where
       is : IsFound (readable old fs) top touch.number x
@@ -166,6 +188,15 @@ module _ (T : Types) (tree : Tree) (known : IsLayout) where
           fields_changed tree.node_type tree.inode_type top (kinds old fs) (readable old fs) here.volume known touch.number is.number is.there (time_parts (Some touch.times))
           (times_fine (fields_of (readable old fs c)) touch.times fit) None refl refl (with_times touch.times) (times_make (fields_of (readable old fs c)) touch.times)
 
+      keeps : SamePointers tree.node_type tree.inode_type (kinds old fs) (readable old fs) (written act (readable old fs))
+      keeps =
+          changes_keep tree.node_type tree.inode_type top (kinds old fs) (readable old fs) here.volume known touch.number is.number is.there
+          (time_parts (Some touch.times)) (times_fine (fields_of (readable old fs c)) touch.times fit) None
+
+      others : (b : ℕ) → HasNoNumber old b → written act (readable old fs) b ≡ readable old fs b
+      others b other =
+          ap (λ t. if t then patched (readable old fs b) act.edit.patches else readable old fs b) (ne_eqb b c (λ same. other touch.number (sym same)))
+
       keep : All KeepsBlocks (act ∷ [])
       keep = All-cons KeepsBlocks act [] refl (All-nil KeepsBlocks)
 
@@ -179,6 +210,11 @@ module _ (T : Types) (tree : Tree) (known : IsLayout) where
                   (subst (λ m. IsVolume tree.node_type tree.inode_type (kinds old fs) m top) (sym read.1) made.0);
             },
             ap (λ m. seen_files rest (files_of m top)) read.1 ∙ (ap (seen_files rest) made.1 ∙ written_seen touch rest (files_at old) lacks),
+            (
+              read.2,
+              subst (SamePointers tree.node_type tree.inode_type (kinds old fs) (readable old fs)) (sym read.1) keeps,
+              λ b other. ap (λ m. m b) read.1 ∙ others b other,
+            ),
           )
 
       abbrev plan : AttributesPlan
@@ -204,8 +240,8 @@ module _ (T : Types) (tree : Tree) (known : IsLayout) where
         by : (r : Result Found Fault) → inode_found (readable old fs) top touch.number ≡ r → DoesIfAny T fs (plan_of_times (times_found old touch.times r)) old new (Ok tt) → Said
         by (Ok x) is does = in_room x is (nat_lt (pending_in_of old x.block) 64) does
         by (Err fault) is does =
-            subst (λ s. At s × (seen_files rest (files_at s) ≡ seen_files (touch ∷ rest) (files_at old))) (sym does.1)
-            (here, none_seen touch rest (files_at old) lacks (none_there fault is))
+            subst (λ s. At s × (seen_files rest (files_at s) ≡ seen_files (touch ∷ rest) (files_at old)) × IsSteady old s) (sym does.1)
+            (here, none_seen touch rest (files_at old) lacks (none_there fault is), steady_same old)
 
   pub one_refused : (touch : Touched) (old new : StoreState) (fault : Fault) → WritesOne T tree touch old new (Err fault) → new ≡ old
   one_refused touch old new fault does = by (times_planned old tree touch) does
@@ -218,25 +254,25 @@ module _ (T : Types) (tree : Tree) (known : IsLayout) where
   -- one inode after another
 
   abbrev pub IsWritten : List Touched → List Touched → StoreState → StoreState → Type 0
-  IsWritten touched left old new = At new × AreTouchedOnce left × (seen_files left (files_at new) ≡ seen_files touched (files_at old))
+  IsWritten touched left old new = At new × AreTouchedOnce left × (seen_files left (files_at new) ≡ seen_files touched (files_at old)) × IsSteady old new
 
   pub all_times : (touched left : List Touched) (old new : StoreState) (result : Result (Unit {0}) Fault) → At old → AreTouchedOnce touched →
       All (λ touch. AreTimes touch.times) touched → WritesTimes T tree touched left old new result → IsWritten touched left old new
   all_times [] left old new result here once fit (done, same, none) =
-      subst (λ s. IsWritten [] left old s) (sym same) (here, subst AreTouchedOnce (sym none) tt, ap (λ l. seen_files l (files_at old)) none)
+      subst (λ s. IsWritten [] left old s) (sym same) (here, subst AreTouchedOnce (sym none) tt, ap (λ l. seen_files l (files_at old)) none, steady_same old)
   all_times (touch ∷ rest) left old new result here once fit writes = elim writes [
     | inl r ↦ refused result r.0 r.1
     | inr r ↦
         let first = one_written touch rest old r.0 here (All-head (λ touch. AreTimes touch.times) touch rest fit) once.0 r.1 in
         let others = all_times rest left r.0 new result first.0 once.1 (All-tail (λ touch. AreTimes touch.times) touch rest fit) r.2 in
-        (others.0, others.1, others.2 ∙ first.1)
+        (others.0, others.1, others.2 ∙ first.1, steady_then old r.0 new here first.2 others.3)
   ]
     where
       refused : (result : Result (Unit {0}) Fault) → MatchResult result (λ done. ⊥) (λ fault. WritesOne T tree touch old new (Err fault)) → left ≡ touch ∷ rest →
           IsWritten (touch ∷ rest) left old new
       refused (Ok done) none same = absurd none
       refused (Err fault) does same =
-          subst (λ l. IsWritten (touch ∷ rest) l old new) (sym same) (subst (λ s. IsWritten (touch ∷ rest) (touch ∷ rest) old s) (sym (one_refused touch old new fault does)) (here, once, refl))
+          subst (λ l. IsWritten (touch ∷ rest) l old new) (sym same) (subst (λ s. IsWritten (touch ∷ rest) (touch ∷ rest) old s) (sym (one_refused touch old new fault does)) (here, once, refl, steady_same old))
 
   -- those that are left were touched
   pub all_left : (P : Touched → Type 0) (touched left : List Touched) (old new : StoreState) (result : Result (Unit {0}) Fault) →
@@ -253,15 +289,27 @@ module _ (T : Types) (state state' : StoreState) (volume volume' : Volume) (know
   abbrev later : List Touched → Volume
   later left = record volume { memory = record volume.memory { touched = left } }
 
+  abbrev Written : List Touched → Type 0
+  Written left = IsWritten T volume.tree known volume.memory.touched left state state'
+
+  module _ (result : Result (Unit {0}) Fault) where
+    times_done : (left : List Touched) → WritesTimes T volume.tree volume.memory.touched left state state' result → Written left
+    times_done left writes =
+        all_times T volume.tree known volume.memory.touched left state state' result
+        (record { store = is_open.kept.store; root = is_open.root; volume = is_open.kept.bytes }) is_open.kept.session.once is_open.kept.session.times writes
+
+    -- no type changes, and no pointer
+    pub times_steady : WriteTimesDoes T state state' volume volume' result → IsSteady T volume.tree known state state' × (volume'.tree ≡ volume.tree)
+    times_steady (left, writes, is) = ((times_done left writes).3, ap (λ (v : Volume). v.tree) is)
+
   pub times_said : (result : Result (Unit {0}) Fault) → WriteTimesDoes T state state' volume volume' result → IsOpen T state' volume' × (files_in state' volume' ≡ files_in state volume)
   times_said result (left, writes, is) = subst (λ v. IsOpen T state' v × (files_in state' v ≡ files_in state volume)) (sym is) (whole, done.2)
     where
       kept : IsKept T state volume
       kept = is_open.kept
 
-      done : IsWritten T volume.tree known volume.memory.touched left state state'
-      done = all_times T volume.tree known volume.memory.touched left state state' result (record { store = kept.store; root = is_open.root; volume = kept.bytes })
-          kept.session.once kept.session.times writes
+      done : Written left
+      done = times_done result left writes
 
       session : IsSession (later left).memory
       session = record {

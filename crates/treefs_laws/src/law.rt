@@ -1,6 +1,7 @@
 // Laws of calls.
 
-ghost use Rattle.std.specs.Prelude.{◌≡◌, ◌≢◌, ◌⊎◌, ◌+◌, ◌<◌, ◌≤◌, ℕ, ℤ, All, FitsSigned, List, Option, None, Some, Ok, Err, Result, [], drop, false, length, take, true};
+ghost use Rattle.std.specs.Prelude.{◌≡◌, ◌≢◌, ◌⊎◌, ◌+◌, ◌<◌, ◌≤◌, ℕ, ℤ, All, FitsSigned, List, Option, None, Some, Ok, Err, Result, [], drop, false};
+ghost use Rattle.std.specs.Prelude.{length, take, true};
 ghost use Rattle.std.specs.Int.{w64};
 ghost use Rattle.xn_model.specs.Types.{Types};
 ghost use Rattle.xn_model.specs.Lives.{StoreState};
@@ -46,6 +47,7 @@ ghost use Rattle.treefs_laws.specs.Overwriting.{IsPartlyPut};
 ghost use Rattle.treefs_laws.specs.Refusals.{IsNoNumber, IsNoPlace, IsNotMoved, IsNotRemoved, IsOfStore, IsRefused, IsWant};
 ghost use Rattle.treefs_laws.specs.Setting.{AreInWidth, with_attributes};
 ghost use Rattle.treefs_laws.specs.Trimmed.{AreKeptOf, IsKeptOf};
+ghost use Rattle.treefs_laws.specs.Unnamed.{KeepsUnnamed};
 
 use treefs_format::law::modes_are_read_back;
 use treefs_values::law::{
@@ -174,12 +176,15 @@ pub fn link_makes_a_name()
 }
 
 /// `begin` begins an inode that no name leads to, and changes no file; of a file or a symbolic link the block says what was told.
+/// Where it is refused all is as it was.
 pub fn begin_changes_no_file()
-    ensures { (T : Types) (state state' : StoreState) (volume : Volume) (kind : Kind) (attributes : NewAttributes) (head : List ℕ) (block : ℕ) →
+    ensures begun { (T : Types) (state state' : StoreState) (volume : Volume) (kind : Kind) (attributes : NewAttributes) (head : List ℕ) (block : ℕ) →
         IsOpen T state volume → FitsAttributes attributes → All (λ b. b < 256) head → length head ≤ 384 →
         BeginDoes T state state' volume kind attributes head (Ok block) →
         IsOpen T state' volume × (files_in state' volume ≡ files_in state volume)
         × (kind ≢ kinds.Directory → IsBegun state' volume block (new_inode volume.memory.clock attributes (new_content kind 0 head))) }
+    ensures refused { (T : Types) (state state' : StoreState) (volume : Volume) (kind : Kind) (attributes : NewAttributes) (head : List ℕ) (fault : Fault) →
+        BeginDoes T state state' volume kind attributes head (Err fault) → state' ≡ state }
 {
     layout_is_known();
     modes_are_read_back();
@@ -206,10 +211,12 @@ pub fn commit_replaces_a_name()
     layout_is_known();
 }
 
-/// `write_times` changes no file, whatever it answers: the times that were only touched are those of the files already.
+/// `write_times` changes no file, whatever it answers: the times that were only touched are those of the files already. An inode that has no number has none
+/// then.
 pub fn write_times_changes_no_file()
     ensures { (T : Types) (state state' : StoreState) (volume volume' : Volume) (result : Result (Unit {0}) Fault) → IsOpen T state volume →
-        WriteTimesDoes T state state' volume volume' result → IsOpen T state' volume' × (files_in state' volume' ≡ files_in state volume) }
+        WriteTimesDoes T state state' volume volume' result →
+        IsOpen T state' volume' × (files_in state' volume' ≡ files_in state volume) × KeepsUnnamed state state' volume volume' }
 {
     layout_is_known();
 }

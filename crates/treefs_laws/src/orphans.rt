@@ -1,6 +1,6 @@
 // Laws of inodes without links, and of blocks that nothing points to.
 
-ghost use Rattle.std.specs.Prelude.{◌≡◌, ℕ, Bool, Contains, List, Ok, Result};
+ghost use Rattle.std.specs.Prelude.{◌≡◌, ◌≢◌, ◌<◌, ℕ, All, Bool, Contains, List, Ok, Result, true};
 ghost use Rattle.xn_model.specs.Types.{Types};
 ghost use Rattle.xn_model.specs.Lives.{StoreState};
 ghost use Rattle.treefs_model.specs.declared.fault.Fault.{Fault};
@@ -8,23 +8,28 @@ ghost use Rattle.treefs.specs.Reaping.{ReapDoes};
 ghost use Rattle.treefs.specs.Trimming.{GiveUpDoes};
 ghost use Rattle.treefs.specs.declared.volume.Volume.{Volume};
 ghost use Rattle.treefs_model.specs.Files.{Inode};
+ghost use Rattle.treefs_model.specs.Reading.{inode_of};
+ghost use Rattle.treefs_puts.specs.Writing.{WriteBegunDoes};
 ghost use Rattle.treefs_laws.specs.Begun.{IsBegun};
 ghost use Rattle.treefs_laws.specs.Kept.{files_in};
 ghost use Rattle.treefs_laws.specs.Open.{IsOpen};
 ghost use Rattle.treefs_laws.specs.Orphans.{IsReaped, WaitLess, without_orphans};
-ghost use Rattle.treefs_laws.specs.Unnamed.{IsUnnamed};
+ghost use Rattle.treefs_laws.specs.Unnamed.{IsReadAlike, IsUnnamed, KeepsUnnamed};
 
 use treefs_format::law::leaves_are_side_by_side;
-use treefs_values::law::{layout_is_known, new_inodes_are_free};
+use treefs_values::law::{
+    attached_blocks_are_pointed_to, empty_blocks_change_no_file, layout_is_known,
+    new_inodes_are_free,
+};
 
 /// `reap` frees inodes without links, of the numbers that it is told, and does nothing else. Whatever it answers, all other inodes are as before, and an inode
 /// that it leaves has no links still, and says what it said, but for bytes that are 0 and names that are gone. Once it is done none of them is left. A
-/// number that waits to be freed no more leads to no inode.
+/// number that waits to be freed no more leads to no inode. An inode that has no number has none then.
 pub fn reap_frees_orphans()
     ensures ever { (T : Types) (old new : StoreState) (volume volume' : Volume) (numbers : List ℕ) (result : Result (Unit {0}) Fault) → IsOpen T old volume →
         ReapDoes T old new volume volume' numbers result →
         IsOpen T new volume' × IsReaped (Contains numbers) (files_in old volume) (files_in new volume')
-        × (volume'.tree ≡ volume.tree) × (volume'.memory.clock ≡ volume.memory.clock) }
+        × (volume'.tree ≡ volume.tree) × (volume'.memory.clock ≡ volume.memory.clock) × KeepsUnnamed old new volume volume' }
     ensures done { (T : Types) (old new : StoreState) (volume volume' : Volume) (numbers : List ℕ) → IsOpen T old volume →
         ReapDoes T old new volume volume' numbers (Ok tt) → files_in new volume' ≡ without_orphans numbers (files_in old volume) }
     ensures waiting { (T : Types) (old new : StoreState) (volume volume' : Volume) (numbers : List ℕ) (result : Result (Unit {0}) Fault) → IsOpen T old volume →
@@ -34,13 +39,31 @@ pub fn reap_frees_orphans()
     leaves_are_side_by_side();
 }
 
-/// `give_up` of an inode that has no number changes no file, whatever it answers. An inode that was begun is such a one.
+/// `give_up` of an inode that has no number changes no file, whatever it answers, and leaves it without one where it isn't free then. An inode that was begun
+/// has no number.
 pub fn give_up_changes_no_file()
     ensures begun { (T : Types) (state : StoreState) (volume : Volume) (block : ℕ) (inode : Inode) → IsOpen T state volume →
         IsBegun state volume block inode → IsUnnamed state volume block }
     ensures given { (T : Types) (old new : StoreState) (volume : Volume) (block : ℕ) (result : Result Bool Fault) → IsOpen T old volume →
-        IsUnnamed old volume block → GiveUpDoes T old new volume block result → IsOpen T new volume × (files_in new volume ≡ files_in old volume) }
+        IsUnnamed old volume block → GiveUpDoes T old new volume block result →
+        IsOpen T new volume × (files_in new volume ≡ files_in old volume) × (result ≢ Ok true → IsUnnamed new volume block) }
 {
     layout_is_known();
     new_inodes_are_free();
 }
+
+/// `write_begun` of an inode that has no number changes no file, whatever it answers, and leaves it without one.
+pub fn begun_writes_change_no_file()
+    ensures { (T : Types) (old new : StoreState) (volume : Volume) (block at : ℕ) (bytes : List ℕ) (result : Result ℕ Fault) → IsOpen T old volume →
+        IsUnnamed old volume block → All (λ b. b < 256) bytes → WriteBegunDoes T old new volume block at bytes result →
+        IsOpen T new volume × (files_in new volume ≡ files_in old volume) × IsUnnamed new volume block }
+{
+    layout_is_known();
+    attached_blocks_are_pointed_to();
+    empty_blocks_change_no_file();
+}
+
+/// An inode that is read alike says what it said, whether it has a number or not.
+pub fn inodes_read_alike_say_the_same()
+    ensures { (old new : ℕ → List ℕ) (key : List ℕ) (block : ℕ) → IsReadAlike old new block → inode_of new key block ≡ inode_of old key block }
+{}

@@ -28,10 +28,11 @@ lacks_is Cycle is = absurd (cc is)
 lacks_is (Kernel reason) is = absurd (cc is)
 
 module _ (T : Types) (s s' : StoreState) (v v' : Volume) where
-  leaves_before : LeavesFiles T s s' v v' → IsAsBefore T s s' v v'
+  pub leaves_before : LeavesFiles T s s' v v' → IsAsBefore T s s' v v'
   leaves_before leaves = record {
     is_open = leaves.1;
     files = leaves.2;
+    unnamed = leaves.3;
     tree = ap (λ (w : Volume). w.tree) leaves.0;
     clock =
         ap (λ (w : Volume). w.memory.clock) leaves.0;

@@ -15,7 +15,8 @@ use Rattle.treefs.specs.declared.volume.Volume.{Volume}
 use Rattle.treefs_laws.specs.Kept.{files_in}
 use Rattle.treefs_laws.specs.Open.{IsOpen}
 use Rattle.treefs_laws.specs.Orphans.{IsOrphan, IsReaped, WaitLess, without_orphans}
-use Rattle.treefs_laws.proofs.ForCallers.{among_or_not, orphan_then, reaped_same, reaped_then, reaped_weaker, reaped_without, without_gone}
+use Rattle.treefs_laws.specs.Unnamed.{KeepsUnnamed}
+use Rattle.treefs_laws.proofs.ForCallers.{among_or_not, orphan_then, reaped_same, reaped_then, reaped_weaker, reaped_without, unnamed_then, without_gone}
 use Rattle.treefs_session.specs.Tries.{MakesRoom, Tries, most_tries}
 use Rattle.treefs_session_laws.specs.Before.{IsAsBefore, IsAsBeforeButOrphans, IsUnheld}
 use Rattle.treefs_session_laws.proofs.Done.{before_same, before_then}
@@ -51,6 +52,7 @@ pub record IsClosing (T : Types) (old new : StoreState) (v v' : Volume) : Type 0
   pub tree : v'.tree ≡ v.tree
   pub clock : v'.memory.clock ≡ v.memory.clock
   pub waiting : WaitLess v.memory.orphans v'.memory.orphans (files_in new v')
+  pub unnamed : KeepsUnnamed old new v v'
 
 module _ (T : Types) where
   as_closing : (old new : StoreState) (v v' : Volume) → IsAsBefore T old new v v' → SameOrphans v v' → IsClosing T old new v v'
@@ -60,6 +62,7 @@ module _ (T : Types) where
         (reaped_same (Contains v.memory.orphans) (among_or_not v.memory.orphans) (files_in old v));
     tree = is.tree;
     clock = is.clock;
+    unnamed = is.unnamed;
     waiting = λ n. (
       λ has. subst (λ (xs : List ℕ). Contains xs n) same has,
       λ has. inl (subst (λ (xs : List ℕ). Contains xs n) (sym same) has),
@@ -77,6 +80,7 @@ module _ (T : Types) where
         (files_in middle w) (files_in new x) second.files);
     tree = second.tree ∙ first.tree;
     clock = second.clock ∙ first.clock;
+    unnamed = unnamed_then old middle new v w x first.unnamed second.unnamed;
     waiting = λ n. (
       λ has. (first.waiting n).0 ((second.waiting n).0 has),
       λ has. elim ((first.waiting n).1 has) [
@@ -90,7 +94,7 @@ module _ (T : Types) (known : AreKnown T)
     (waits : (old new : StoreState) (v v' : Volume) (numbers : List ℕ) (result : Result (Unit {0}) Fault) → IsOpen T old v →
     ReapDoes T old new v v' numbers result → WaitLess v.memory.orphans v'.memory.orphans (files_in new v'))
     (marks : (old new : StoreState) (v : Volume) (clean : Bool) (result : Result (Unit {0}) Fault) → IsOpen T old v →
-    Does T v.tree.fs.number (mark_plan v.tree.top clean) old new result → IsOpen T new v × (files_in new v ≡ files_in old v)) where
+    Does T v.tree.fs.number (mark_plan v.tree.top clean) old new result → IsOpen T new v × (files_in new v ≡ files_in old v) × KeepsUnnamed old new v v) where
   -- Orphans are freed
 
   abbrev Reaps_so : StoreState → StoreState → Volume → Volume → Result (Unit {0}) Fault → Type 0
@@ -103,7 +107,7 @@ module _ (T : Types) (known : AreKnown T)
       subst (λ w. IsClosing T old new v w) (sym stays) (subst (λ s. IsClosing T old s v v) (sym still) (closing_same T old v is_open))
   reaps_closing old new v v' result is_open (inr does) =
       let r = known.reaps old new v v' v.memory.orphans result is_open does in
-      record { is_open = r.0; files = r.1; tree = r.2; clock = r.3; waiting = waits old new v v' v.memory.orphans result is_open does }
+      record { is_open = r.0; files = r.1; tree = r.2; clock = r.3; waiting = waits old new v v' v.memory.orphans result is_open does; unnamed = r.4 }
 
   -- All is written, and the mark
 
@@ -115,7 +119,7 @@ module _ (T : Types) (known : AreKnown T)
   mark_before : (old new : StoreState) (v : Volume) (result : Result (Unit {0}) Fault) → IsOpen T old v →
       Does T v.tree.fs.number (mark_plan v.tree.top true) old new result → IsAsBefore T old new v v
   mark_before old new v result is_open does =
-      let m = marks old new v true result is_open does in record { is_open = m.0; files = m.1; tree = refl; clock = refl }
+      let m = marks old new v true result is_open does in record { is_open = m.0; files = m.1; tree = refl; clock = refl; unnamed = m.2 }
 
   marks_before : (old new : StoreState) (v : Volume) (result : Result (Unit {0}) Fault) → IsOpen T old v → Marks_so old new v result → IsAsBefore T old new v v
   marks_before old new v (Ok done) is_open (inl none) = absurd none
@@ -187,6 +191,7 @@ module _ (T : Types) (known : AreKnown T)
     files = reaped_weaker (Contains v.memory.orphans) (among_or_not v.memory.orphans) (IsUnheld []) (λ n has. refl) (files_in old v) (files_in new v') is.files;
     tree = is.tree;
     clock = is.clock;
+    unnamed = is.unnamed;
   }
 
   pub closes_unheld : (old new : StoreState) (v v' : Volume) (result : Result (Unit {0}) Fault) → IsOpen T old v →

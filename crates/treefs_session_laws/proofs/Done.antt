@@ -6,13 +6,15 @@ use Rattle.xn_model.specs.Types.{Types}
 use Rattle.treefs_model.specs.declared.fault.Fault.{Fault}
 use Rattle.treefs_model.specs.declared.fault.Fault.TheVariants.{BadName, Cycle, Exists, Full, IsDir, Kernel, NoEntry, NoInode, NoSpace}
 use Rattle.treefs_model.specs.declared.fault.Fault.TheVariants.{NotDir, NotEmpty, NotLink, TooLarge}
+use Rattle.treefs_lookup.specs.Readable.{readable}
 use Rattle.treefs.specs.declared.volume.Volume.{Volume}
 use Rattle.treefs_laws.specs.Open.{IsOpen}
+use Rattle.treefs_laws.proofs.ForCallers.{alike_same, unnamed_then}
 use Rattle.treefs_session.specs.Tries.{MakesRoom, Tries, TriesOnce, as_answer, is_full}
 use Rattle.treefs_session_laws.specs.Before.{IsAsBefore}
 
 pub before_same : (T : Types) (state : StoreState) (volume : Volume) → IsOpen T state volume → IsAsBefore T state state volume volume
-before_same T state volume is_open = record { is_open = is_open; files = refl; tree = refl; clock = refl }
+before_same T state volume is_open = record { is_open = is_open; files = refl; tree = refl; clock = refl; unnamed = λ block unnamed. (unnamed, alike_same (readable state volume.tree.fs.number) block) }
 
 pub before_then : (T : Types) (old middle new : StoreState) (volume between volume' : Volume) → IsAsBefore T old middle volume between →
     IsAsBefore T middle new between volume' → IsAsBefore T old new volume volume'
@@ -21,6 +23,7 @@ before_then T old middle new volume between volume' first next = record {
   files = next.files ∙ first.files;
   tree = next.tree ∙ first.tree;
   clock = next.clock ∙ first.clock;
+  unnamed = unnamed_then old middle new volume between volume' first.unnamed next.unnamed;
 }
 
 pub full_is : (fault : Fault) → is_full fault ≡ true → fault ≡ Full

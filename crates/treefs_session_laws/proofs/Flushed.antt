@@ -19,6 +19,7 @@ use Rattle.treefs_values.specs.Volumes.{IsVolume}
 use Rattle.treefs_laws.specs.Kept.{files_in}
 use Rattle.treefs_laws.specs.Open.{IsOpen}
 use Rattle.treefs_laws.specs.Seen.{seen_files}
+use Rattle.treefs_laws.proofs.ForCallers.{read_keeps}
 use Rattle.treefs_session_laws.specs.Before.{IsAsBefore}
 
 -- Of one block
@@ -88,4 +89,5 @@ module _ (T : Types) (old new : StoreState) (volume : Volume) (is_open : IsOpen 
     files = files_on;
     tree = refl;
     clock = refl;
+    unnamed = read_keeps T old new volume is_open (kinds_on T old new keeps sound fs) (reads_on T old new keeps sound fs);
   }

@@ -19,7 +19,8 @@ use Rattle.treefs.specs.declared.volume.Volume.{Volume}
 use Rattle.treefs_laws.specs.Kept.{files_in}
 use Rattle.treefs_laws.specs.Open.{IsOpen}
 use Rattle.treefs_laws.specs.Orphans.{IsReaped, without_orphans}
-use Rattle.treefs_laws.proofs.ForCallers.{among_or_not, reaped_same, reaped_then, reaped_weaker, reaped_without, without_gone}
+use Rattle.treefs_laws.specs.Unnamed.{KeepsUnnamed}
+use Rattle.treefs_laws.proofs.ForCallers.{among_or_not, reaped_same, reaped_then, reaped_weaker, reaped_without, unnamed_then, without_gone}
 use Rattle.treefs_session.specs.Freeing.{FreesAndTries, MakesFreely, ReapsAndWrites, Reaps, Syncs, Writes, unheld}
 use Rattle.treefs_session.specs.Tries.{MakesRoom, Tries, most_tries}
 use Rattle.treefs_session_laws.specs.Before.{IsAsBefore, IsAsBeforeButOrphans, IsUnheld}
@@ -45,6 +46,7 @@ module _ (T : Types) (Among : ℕ → Type 0) (tells : (n : ℕ) → Among n ⊎
     pub files : IsReaped Among (files_in old volume) (files_in new volume')
     pub tree : volume'.tree ≡ volume.tree
     pub clock : volume'.memory.clock ≡ volume.memory.clock
+    pub unnamed : KeepsUnnamed old new volume volume'
 
   pub opens : (old new : StoreState) (v v' : Volume) → IsButOrphans old new v v' → IsOpen T new v'
   opens old new v v' is = is.is_open
@@ -55,6 +57,7 @@ module _ (T : Types) (Among : ℕ → Type 0) (tells : (n : ℕ) → Among n ⊎
     files = subst (IsReaped Among (files_in old v)) (sym is.files) (reaped_same Among tells (files_in old v));
     tree = is.tree;
     clock = is.clock;
+    unnamed = is.unnamed;
   }
 
   pub but_same : (s : StoreState) (v : Volume) → IsOpen T s v → IsButOrphans s s v v
@@ -66,6 +69,7 @@ module _ (T : Types) (Among : ℕ → Type 0) (tells : (n : ℕ) → Among n ⊎
     files = reaped_then Among tells (files_in old v) (files_in middle w) (files_in new x) first.files second.files;
     tree = second.tree ∙ first.tree;
     clock = second.clock ∙ first.clock;
+    unnamed = unnamed_then old middle new v w x first.unnamed second.unnamed;
   }
 
 -- What is told of the calls below
@@ -75,10 +79,11 @@ pub record AreKnown (T : Types) : Type 0 where
       IsAsBefore T old new volume volume
   pub room : (old new : StoreState) (v v' : Volume) (result : Result Bool Fault) → IsOpen T old v → MakesRoom T old new v v' result → IsAsBefore T old new v v'
   pub times : (old new : StoreState) (v v' : Volume) (result : Result (Unit {0}) Fault) → IsOpen T old v → WriteTimesDoes T old new v v' result →
-      IsOpen T new v' × (files_in new v' ≡ files_in old v)
+      IsOpen T new v' × (files_in new v' ≡ files_in old v) × KeepsUnnamed old new v v'
   pub reaps : (old new : StoreState) (v v' : Volume) (numbers : List ℕ) (result : Result (Unit {0}) Fault) → IsOpen T old v →
       ReapDoes T old new v v' numbers result →
       IsOpen T new v' × IsReaped (Contains numbers) (files_in old v) (files_in new v') × (v'.tree ≡ v.tree) × (v'.memory.clock ≡ v.memory.clock)
+      × KeepsUnnamed old new v v'
   pub reaped : (old new : StoreState) (v v' : Volume) (numbers : List ℕ) → IsOpen T old v → ReapDoes T old new v v' numbers (Ok tt) →
       files_in new v' ≡ without_orphans numbers (files_in old v)
 
@@ -89,7 +94,7 @@ module _ (T : Types) (known : AreKnown T) where
       IsAsBefore T old new v v'
   times_before old new v v' result is_open writes =
       let t = known.times old new v v' result is_open writes in
-      record { is_open = t.0; files = t.1; tree = ap (λ (w : Volume). w.tree) writes.2; clock = ap (λ (w : Volume). w.memory.clock) writes.2 }
+      record { is_open = t.0; files = t.1; tree = ap (λ (w : Volume). w.tree) writes.2; clock = ap (λ (w : Volume). w.memory.clock) writes.2; unnamed = t.2 }
 
   abbrev pub Flushed : StoreState → StoreState → Result (Unit {0}) Fault → Type 0
   Flushed old new result = MatchResult result
@@ -136,7 +141,7 @@ module _ (T : Types) (known : AreKnown T) where
 
     reap_but : (old new : StoreState) (v v' : Volume) (result : Result (Unit {0}) Fault) → IsOpen T old v → Reaping old new v v' result → But old new v v'
     reap_but old new v v' result is_open does =
-        let r = known.reaps old new v v' numbers result is_open does in record { is_open = r.0; files = r.1; tree = r.2; clock = r.3 }
+        let r = known.reaps old new v v' numbers result is_open does in record { is_open = r.0; files = r.1; tree = r.2; clock = r.3; unnamed = r.4 }
 
     pub reaps_but : (old new : StoreState) (v v' : Volume) (result : Result (Unit {0}) Fault) → IsOpen T old v → Reaps T numbers old new v v' result →
         But old new v v'
@@ -165,7 +170,7 @@ module _ (T : Types) (known : AreKnown T) where
 
     pub as_before : (old new : StoreState) (v v' : Volume) → IsAsBefore T old new v v' → IsAsBeforeButOrphans T held old new v v'
     as_before old new v v' is = let b = from_before T (IsUnheld held) (held_or_not held) old new v v' is in
-        record { is_open = b.is_open; files = b.files; tree = b.tree; clock = b.clock }
+        record { is_open = b.is_open; files = b.files; tree = b.tree; clock = b.clock; unnamed = b.unnamed }
 
     as_but : (old new : StoreState) (v v' : Volume) (orphans : List ℕ) → But (unheld held orphans) old new v v' → Unheld old new v v'
     as_but old new v v' orphans is = record {
@@ -174,17 +179,19 @@ module _ (T : Types) (known : AreKnown T) where
           (files_in new v') is.files;
       tree = is.tree;
       clock = is.clock;
+      unnamed = is.unnamed;
     }
 
     unheld_same : (s : StoreState) (v : Volume) → IsOpen T s v → Unheld s s v v
     unheld_same s v is_open = as_before s s v v (before_same T s v is_open)
 
-    unheld_then : (old middle new : StoreState) (v w x : Volume) → Unheld old middle v w → Unheld middle new w x → Unheld old new v x
+    pub unheld_then : (old middle new : StoreState) (v w x : Volume) → Unheld old middle v w → Unheld middle new w x → Unheld old new v x
     unheld_then old middle new v w x first second = record {
       is_open = second.is_open;
       files = reaped_then (IsUnheld held) (held_or_not held) (files_in old v) (files_in middle w) (files_in new x) first.files second.files;
       tree = second.tree ∙ first.tree;
       clock = second.clock ∙ first.clock;
+      unnamed = unnamed_then old middle new v w x first.unnamed second.unnamed;
     }
 
     reaps_and_writes : (old new : StoreState) (v v' : Volume) (result : Result (Unit {0}) Fault) → IsOpen T old v →

@@ -10,7 +10,7 @@ use Rattle.treefs_session.specs.Tries.{MakesRoom, Tries, most_tries}
 use Rattle.treefs_session_laws.specs.Before.{IsAsBeforeButOrphans}
 use Rattle.treefs_session_laws.proofs.Done.{before_same}
 use Rattle.treefs_session_laws.proofs.Freed.{AreKnown, as_before, syncs_unheld}
-use Rattle.treefs_session_laws.proofs.Tried.{IsAgain, tries_end, tries_lack, tries_refused}
+use Rattle.treefs_session_laws.proofs.Tried.{IsAgain, tries_end, tries_lack, tries_refused, tries_told}
 
 -- Holds: of a volume between calls; Keeps: of two states of it, one before the other
 module _ (T : Types) (known : AreKnown T) (held : List ℕ) (Holds : StoreState → Volume → Type 0)
@@ -58,6 +58,28 @@ module _ (T : Types) (known : AreKnown T) (held : List ℕ) (Holds : StoreState 
         let first = lacks old middle v w fault holds space tries in
         let last = frees_and_tries middle new w v' answer (opens old middle v w first) freed in
         (last.0, last.1, chain old middle last.0 v w last.1 first last.2, last.3)
+
+    -- and of one that keeps it where it answers this
+    module _ (Told : Fault → Type 0) (so : (old new : StoreState) (v v' : Volume) (fault : Fault) → Holds old v → Told fault → Does old new v v' (Err fault) →
+        Keeps old new v v') where
+      told_tries : (old new : StoreState) (v v' : Volume) (fault : Fault) → Holds old v → Told fault → Tries Does T most_tries old new v v' (Err fault) →
+          Keeps old new v v'
+      told_tries old new v v' fault holds told tries =
+          tries_told T Holds Keeps opens same chain room Does refused Told so most_tries old new v v' fault holds told tries
+
+      told_frees : (old new : StoreState) (v v' : Volume) (fault : Fault) → Holds old v → Told fault → FreesAndTries Does T held old new v v' (Err fault) →
+          Keeps old new v v'
+      told_frees old new v v' fault holds told (inl freed) = syncs old new v v' (Err fault) holds freed
+      told_frees old new v v' fault holds told (inr (middle, w, freed, tries)) =
+          let first = syncs old middle v w (Ok tt) holds freed in
+          chain old middle new v w v' first (told_tries middle new w v' fault (opens old middle v w first) told tries)
+
+      pub made_told : (old new : StoreState) (v v' : Volume) (fault : Fault) → Holds old v → Told fault → MakesFreely Does T held old new v v' (Err fault) →
+          Keeps old new v v'
+      made_told old new v v' fault holds told (inl (tries, space)) = told_tries old new v v' fault holds told tries
+      made_told old new v v' fault holds told (inr (other, middle, w, tries, space, freed)) =
+          let first = lacks old middle v w other holds space tries in
+          chain old middle new v w v' first (told_frees middle new w v' fault (opens old middle v w first) told freed)
 
   -- told: of a call that keeps it wherever it is refused
   module _ (refused : (old new : StoreState) (v v' : Volume) (fault : Fault) → Holds old v → Does old new v v' (Err fault) → Keeps old new v v') where

@@ -16,3 +16,7 @@ mod Sized
 mod Pieces
 mod Rewriting
 mod Written
+mod Begun
+mod GivenUp
+mod Naming
+mod Put

@@ -12,7 +12,7 @@ use Rattle.treefs_session_laws.specs.Before.{IsAsBefore}
 use Rattle.treefs_session_laws.proofs.Done.{before_same}
 
 -- a call that is full is not refused by the store
-not_of_store : IsOfStore Full → ⊥
+pub not_of_store : IsOfStore Full → ⊥
 not_of_store (inl is) = cc is
 not_of_store (inr (reason, is)) = cc is
 

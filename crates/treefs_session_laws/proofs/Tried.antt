@@ -70,33 +70,40 @@ module _ (T : Types) (Holds : StoreState → Volume → Type 0) (Keeps : StoreSt
         let last = tries_end left middle new w v' answer (opens old middle v w first) rest in
         (last.0, last.1, chain old middle last.0 v w last.1 first last.2, last.3)
 
+    -- and of one that keeps it where it answers this
+    module _ (Told : Fault → Type 0) (so : (old new : StoreState) (v v' : Volume) (fault : Fault) → Holds old v → Told fault → Does old new v v' (Err fault) →
+        Keeps old new v v') where
+      refused_at : (old new : StoreState) (v v' : Volume) (fault : Fault) → Holds old v → Told fault →
+          TriesOnce Does T old new v v' (Some (Err fault)) → Keeps old new v v'
+      refused_at old new v v' fault is_open told (inl (answer, is, done)) = absurd (cc is)
+      refused_at old new v v' fault is_open told (inr (g, middle, w, left, does, after, is)) = by after
+        where
+          here : (left : Option Fault) → ◌≡◌ {A = Option (Result A Fault)} (Some (Err fault)) (as_answer left) → left ≡ Some g → Told g
+          here None is answers = absurd (cc answers)
+          here (Some h) is answers = subst Told (same_fault fault h (same_Some (Err fault) (Err h) is) ∙ same_Some h g answers) told
+            where
+              same_fault : (f g : Fault) → ◌≡◌ {A = Result A Fault} (Err f) (Err g) → f ≡ g
+              same_fault f g e = cc e
+
+          by : RoomAfter T middle new w v' g left → Keeps old new v v'
+          by (inl (other, answers, still, stays)) =
+              after_refusal old middle new v w v' g left (so old middle v w g is_open (here left is answers) does) (inl (other, answers, still, stays))
+          by (inr (full, made)) = after_refusal old middle new v w v' g left (refused old middle v w g is_open (inl full) does) (inr (full, made))
+
+      pub tries_told : (left : ℕ) (old new : StoreState) (v v' : Volume) (fault : Fault) → Holds old v → Told fault → Tries Does T left old new v v' (Err fault) →
+          Keeps old new v v'
+      tries_told zero old new v v' fault is_open told (answers, still, stays) =
+          subst (λ y. Keeps old new v y) (sym stays) (subst (λ s. Keeps old s v v) (sym still) (same old v is_open))
+      tries_told (suc left) old new v v' fault is_open told (inl tried) = refused_at old new v v' fault is_open told tried
+      tries_told (suc left) old new v v' fault is_open told (inr (middle, w, tried, rest)) =
+          let first = again old middle v w is_open tried in
+          chain old middle new v w v' first (tries_told left middle new w v' fault (opens old middle v w first) told rest)
+
     -- one that is refused for want of space
-    refused_at : (old new : StoreState) (v v' : Volume) (fault : Fault) → Holds old v → lacks_space fault ≡ true →
-        TriesOnce Does T old new v v' (Some (Err fault)) → Keeps old new v v'
-    refused_at old new v v' fault is_open space (inl (answer, is, done)) = absurd (cc is)
-    refused_at old new v v' fault is_open space (inr (g, middle, w, left, does, after, is)) = by after
-      where
-        here : (left : Option Fault) → ◌≡◌ {A = Option (Result A Fault)} (Some (Err fault)) (as_answer left) → left ≡ Some g → lacks_space g ≡ true
-        here None is told = absurd (cc told)
-        here (Some h) is told = ap lacks_space (sym (same_Some h g told))
-            ∙ (ap lacks_space (sym (same_fault fault h (same_Some (Err fault) (Err h) is))) ∙ space)
-          where
-            same_fault : (f g : Fault) → ◌≡◌ {A = Result A Fault} (Err f) (Err g) → f ≡ g
-            same_fault f g e = cc e
-
-        by : RoomAfter T middle new w v' g left → Keeps old new v v'
-        by (inl (other, told, still, stays)) =
-            after_refusal old middle new v w v' g left (refused old middle v w g is_open (inr (here left is told)) does) (inl (other, told, still, stays))
-        by (inr (full, made)) = after_refusal old middle new v w v' g left (refused old middle v w g is_open (inl full) does) (inr (full, made))
-
     pub tries_lack : (left : ℕ) (old new : StoreState) (v v' : Volume) (fault : Fault) → Holds old v → lacks_space fault ≡ true →
         Tries Does T left old new v v' (Err fault) → Keeps old new v v'
-    tries_lack zero old new v v' fault is_open space (told, still, stays) =
-        subst (λ y. Keeps old new v y) (sym stays) (subst (λ s. Keeps old s v v) (sym still) (same old v is_open))
-    tries_lack (suc left) old new v v' fault is_open space (inl tried) = refused_at old new v v' fault is_open space tried
-    tries_lack (suc left) old new v v' fault is_open space (inr (middle, w, tried, rest)) =
-        let first = again old middle v w is_open tried in
-        chain old middle new v w v' first (tries_lack left middle new w v' fault (opens old middle v w first) space rest)
+    tries_lack left old new v v' fault is_open space tries = tries_told (λ f. lacks_space f ≡ true)
+        (λ old new v v' f is_open space does. refused old new v v' f is_open (inr space) does) left old new v v' fault is_open space tries
 
   -- told: of one that keeps it where it is refused
   module _ (refused : (old new : StoreState) (v v' : Volume) (fault : Fault) → Holds old v → Does old new v v' (Err fault) → Keeps old new v v') where

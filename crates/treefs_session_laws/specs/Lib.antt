@@ -1,2 +1,3 @@
 pub mod Before
 pub mod Written
+pub mod Puts

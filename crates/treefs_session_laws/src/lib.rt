@@ -5,3 +5,4 @@
 pub mod bytes;
 pub mod law;
 pub mod orphans;
+pub mod puts;

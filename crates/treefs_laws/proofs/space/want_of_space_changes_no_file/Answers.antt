@@ -27,7 +27,7 @@ returns-clause-rename c = λ T state state' volume volume' d name to new fault i
 
 pub returns-clause-begin : goal.returns-clause-begin
 returns-clause-begin c = λ T state state' volume kind attributes head fault is_open space does.
-    begin_leaves T state state' volume is_open fault space kind attributes head does
+    begin_leaves T state state' volume fault is_open kind attributes head does
 
 pub returns-clause-commit : goal.returns-clause-commit
 returns-clause-commit c = λ T state state' volume volume' block d name replace fault is_open space does.
