@@ -23,13 +23,12 @@ use Rattle.treefs_values.specs.Kinds.{kinds}
 use Rattle.treefs_values.specs.KnownLayout.{IsLayout}
 use Rattle.treefs_values.specs.Volumes.{IsWholeBlock}
 use Rattle.treefs_values.specs.Ways.{IsWay}
-use Rattle.treefs_values.proofs.ForCallers.{AreNew, AreOf, IsNew, IsOther, New, bare_node, blocks_in, new_kept, new_parts}
+use Rattle.treefs_values.proofs.ForCallers.{AreNew, AreOf, IsNew, IsOther, New, bare_node, blocks_in, new_kept, new_parts, onto, way_first}
 use Rattle.treefs_laws.proofs.AsideBegun.{IsAsideAt, Stays, stays_then}
 use Rattle.treefs_laws.proofs.AsideEdits.{IsDone, made_aside, ran_first, wait_made}
 use Rattle.treefs_laws.proofs.AsideTree.{IsAside, new_other, set_above, set_aside, set_files, set_new, set_there}
 use Rattle.treefs_laws.proofs.Attaching.{AreAttached}
 use Rattle.treefs_laws.proofs.LeavesAttached.{way_stands, way_up}
-use Rattle.treefs_laws.proofs.MissingPath.{onto, way_first}
 use Rattle.treefs_laws.proofs.NodesAttached.{IsNext}
 use Rattle.treefs_laws.proofs.PointersPatched.{attach_each, attach_many}
 use Rattle.treefs_laws.proofs.RunStarts.{blocks_first, blocks_long}

@@ -32,15 +32,13 @@ use Rattle.treefs_byte_plans.specs.declared.run_plan.RunPlan.{RunPlan}
 use Rattle.treefs_values.specs.Kinds.{kinds}
 use Rattle.treefs_values.specs.KnownLayout.{IsLayout}
 use Rattle.treefs_values.specs.Ways.{IsWay}
-use Rattle.treefs_values.proofs.ForCallers.{AreBegun, AreNew, AreOf, IsFineStart, IsOther, New, begun_so, blocks_in, new_kept, new_parts, of_long, of_parts}
+use Rattle.treefs_values.proofs.ForCallers.{AreBegun, AreNew, AreOf, IsFineStart, IsOther, IsPathTo, New, begun_so, blocks_in, new_kept, new_parts, of_long, of_parts, onto, path_to, steps_way}
 use Rattle.treefs_laws.proofs.AsideBegun.{IsAsideAt, KeepsTree, Stays, stays_then}
 use Rattle.treefs_laws.proofs.AsideEdits.{does_stays, made_aside, own_placed, own_whole, ran_first, size_made, sizes_adjoin, sizes_whole, wait_made, whole_own}
 use Rattle.treefs_laws.proofs.AsideRun.{AreBeside, AreNodesRan, IsFreePlace, attach_ran, beside, nodes_ran, together_is}
 use Rattle.treefs_laws.proofs.AsideTree.{IsAside}
 use Rattle.treefs_laws.proofs.Attaching.{AreAttached}
-use Rattle.treefs_laws.proofs.Fading.{way_of_leaf}
 use Rattle.treefs_laws.proofs.LeavesAttached.{way_stands}
-use Rattle.treefs_laws.proofs.MissingPath.{IsPathTo, onto, path_to}
 use Rattle.treefs_laws.proofs.NodesAttached.{IsNext}
 use Rattle.treefs_laws.proofs.PointersPatched.{attach_each, patches_behind}
 use Rattle.treefs_laws.proofs.RunPlanned.{IsBeside, is_beside}
@@ -178,7 +176,7 @@ module _ (laws : AreAttached) (T : Types) (known : IsLayout) (tree : Tree) (few 
       steps_at j lt = (beside_at j lt).steps_are ∙ ap (λ os. (slice_index os 0 + 4 * j) ∷ drop 1 os) p.steps_are
 
       way_at : (j : ℕ) → j < count → IsWay ((l0 + 4 * j) ∷ above) 0
-      way_at j lt = subst (λ os. IsWay os 0) (steps_at j lt) (way_of_leaf (leaf + j))
+      way_at j lt = subst (λ os. IsWay os 0) (steps_at j lt) (steps_way (leaf + j))
 
       abbrev More : ℕ → Type 0
       More o = (j : ℕ) × (j < count) × (o ≡ l0 + 4 * j)
@@ -187,14 +185,14 @@ module _ (laws : AreAttached) (T : Types) (known : IsLayout) (tree : Tree) (few 
       more_stands o (j, lt, is) = subst (λ k. (4 ≤ k) × (k + 4 ≤ 512) × (k % 4 ≡ 0)) (sym is) (way_stands (l0 + 4 * j) 0 above (way_at j lt))
 
       first_way : IsWay (l0 ∷ above) 0
-      first_way = subst (λ os. IsWay os 0) p.steps_are (way_of_leaf leaf)
+      first_way = subst (λ os. IsWay os 0) p.steps_are (steps_way leaf)
 
       free_first : (os : List ℕ) → os ≡ nodes → (o : ℕ) → IsNext More os o → pointed c0 owner o ≡ 0
       free_first [] is o (j, lt, o_is) =
           let above_is : q ≡ above = ap (onto q) is in
           ap (pointed c0 owner) o_is
           ∙ (ap (λ b. pointed c0 b (l0 + 4 * j)) (p.holder ∙ ap (block_at c0 c) above_is)
-          ∙ (ap (block_at c0 c) (sym (steps_at j lt)) ∙ (keeps.ways 0 (steps (leaf + j)) (way_of_leaf (leaf + j)) ∙ missing j lt)))
+          ∙ (ap (block_at c0 c) (sym (steps_at j lt)) ∙ (keeps.ways 0 (steps (leaf + j)) (steps_way (leaf + j)) ∙ missing j lt)))
       free_first (y ∷ os) is o next = ap (pointed c0 owner) next ∙ p.next_zero y os (sym is)
 
       abbrev last_acts : List Act
