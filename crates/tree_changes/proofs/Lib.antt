@@ -1,2 +1,5 @@
 mod Along
+mod Fronts
 mod Going
+mod Missing
+mod Parents

@@ -1,3 +1,4 @@
 pub mod Paths
 pub mod Folders
+pub mod Making
 pub mod Naming
