@@ -1,4 +1,6 @@
 pub mod Paths
 pub mod Folders
 pub mod Making
+pub mod Modes
+pub mod Attributes
 pub mod Naming
