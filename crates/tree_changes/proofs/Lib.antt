@@ -1,4 +1,5 @@
 mod Along
+mod Changing
 mod Fronts
 mod Going
 mod Missing

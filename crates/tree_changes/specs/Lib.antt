@@ -3,4 +3,5 @@ pub mod Folders
 pub mod Making
 pub mod Modes
 pub mod Attributes
+pub mod Files
 pub mod Naming
