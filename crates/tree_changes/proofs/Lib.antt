@@ -4,3 +4,4 @@ mod Fronts
 mod Going
 mod Missing
 mod Parents
+mod Removals

@@ -4,4 +4,5 @@ pub mod Making
 pub mod Modes
 pub mod Attributes
 pub mod Files
+pub mod Removing
 pub mod Naming
