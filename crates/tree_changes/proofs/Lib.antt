@@ -5,3 +5,4 @@ mod Going
 mod Missing
 mod Parents
 mod Removals
+mod Moved

@@ -6,3 +6,4 @@ pub mod Attributes
 pub mod Files
 pub mod Removing
 pub mod Naming
+pub mod Moving
