@@ -10,7 +10,7 @@ use Rattle.treefs.specs.declared.volume.Volume.{Volume}
 use Rattle.tree_lines.specs.Answers.{Answers}
 use Rattle.tree_lines.specs.Telling.{GoesOn, LeavesOut}
 use Rattle.tree_lines.specs.declared.told.Told.{Told}
-use Rattle.tree_changes.specs.Paths.{AtPath, DoesEach, DoesPaths, EndsAt, TellsEach}
+use Rattle.tree_changes.specs.Paths.{AtPath, DoesAll, DoesPaths, EndsAt, StopsAt, TellsEach}
 use Rattle.tree_changes.specs.Paths.DoesEach.{does, leaves, none}
 
 -- at one path
@@ -123,3 +123,28 @@ module _ {E : Type 0} (Done Left : Types → ℕ → List ℕ → StoreState →
       let left = left_there (Done T top) (Left T top) told told1 told2 old middle new volume between volume' (take place (texts paths)) path tells_so done
       answer fault at_so goes err in
       stops_there (Done T top) (Left T top) paths place default within told told1 told2 old middle new volume between volume' tells_so left result is
+
+-- all of some paths
+
+pub none_done : (Done : List ℕ → StoreState → StoreState → Volume → Volume → Type 0) (old : StoreState) (volume : Volume) → DoesAll Done [] old old volume volume
+none_done Done old volume = none
+
+-- Done, Left: of the types and the folder that stay
+module _ (Done Left : Types → ℕ → List ℕ → StoreState → StoreState → Volume → Volume → Type 0) (T types : Types) (top folder : ℕ)
+    (types_are : types ≡ T) (folder_is : folder ≡ top) (before : List (List ℕ)) (path : List ℕ) (old middle new : StoreState) (volume between volume' : Volume)
+    (all : DoesAll (Done T top) before old middle volume between) where
+  stays_so : (P : Types → ℕ → Type 0) → P types folder → P T top
+  stays_so P h = subst (λ (n : ℕ). P T n) folder_is (subst (λ (t : Types). P t folder) types_are h)
+
+  pub one_more_done : Done types folder path middle new between volume' → DoesAll (Done T top) (before ++ path ∷ []) old new volume volume'
+  one_more_done made = does middle between all (stays_so (λ t n. Done t n path middle new between volume') made)
+
+  pub stops_at : (paths behind : List (List ℕ)) → paths ≡ before ++ path ∷ behind → Left types folder path middle new between volume' →
+      StopsAt (Done T top) (Left T top) paths old new volume volume'
+  stops_at paths behind parts left = (before, path, behind, middle, between, parts, all, stays_so (λ t n. Left t n path middle new between volume') left)
+
+  pub last_answered : {E : Type 0} (result : Result (Unit {0}) E) → AtPath (Done types folder) (Left types folder) path middle new between volume' result →
+      AtPath (λ path. DoesAll (Done T top) (before ++ path ∷ [])) (λ path. StopsAt (Done T top) (Left T top) (before ++ path ∷ [])) path old new volume volume'
+      result
+  last_answered (Ok done) at = one_more_done at
+  last_answered (Err fault) at = stops_at (before ++ path ∷ []) [] refl at

@@ -5,7 +5,7 @@
 --     SymbolicTo               that is put
 --     LinksTo, IsUnlinkedTo    the one or the other is done, or not
 --     Links, IsUnlinked        the same, of two paths
-use Rattle.std.specs.Prelude.{◌≡◌, ◌⊎◌, ℕ, ◌≤◌, false, List, [], ◌∷◌, length, Result, Ok, Err}
+use Rattle.std.specs.Prelude.{◌≡◌, ◌⊎◌, ℕ, ◌≤◌, false, List, [], ◌∷◌, length, Result, Ok}
 use Rattle.xn_model.specs.Lives.{StoreState}
 use Rattle.xn_model.specs.Types.{Types}
 use Rattle.treefs_format.specs.declared.kind.Kind.TheVariants.{SymbolicLink}

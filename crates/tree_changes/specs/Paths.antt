@@ -3,6 +3,8 @@
 --     IsRefused      nothing was; or a call was refused
 --     AtPath         what a word does at one path, or it is left out, with its fault
 --     DoesEach       what a word does at some paths, in their order, each in the volume that the one before left; which of them were left out
+--     DoesAll        the same, where none was left out
+--     StopsAt        the first ones were done, and then one was left out
 --     DoesPaths      the same, with what is told; or the line ended at one of them
 use Rattle.std.specs.Prelude.{◌≡◌, ◌⊎◌, ℕ, List, [], ◌∷◌, ◌++◌, length, Result, Err, MatchResult}
 use Rattle.xn_model.specs.Lives.{StoreState}
@@ -33,6 +35,15 @@ pub data DoesEach (Done Left : List ℕ → StoreState → StoreState → Volume
   leaves : {paths left : List (List ℕ)} {path : List ℕ} {old new : StoreState} {volume volume' : Volume} (middle : StoreState) (between : Volume) →
       DoesEach Done Left paths left old middle volume between → Left path middle new between volume' →
       DoesEach Done Left (paths ++ path ∷ []) (left ++ path ∷ []) old new volume volume'
+
+abbrev pub DoesAll : (Done : List ℕ → StoreState → StoreState → Volume → Volume → Type 0) → List (List ℕ) → StoreState → StoreState → Volume → Volume → Type 0
+DoesAll Done paths old new volume volume' = DoesEach Done (λ path old new volume volume'. ⊥) paths [] old new volume volume'
+
+abbrev pub StopsAt : (Done Left : List ℕ → StoreState → StoreState → Volume → Volume → Type 0) → List (List ℕ) → StoreState → StoreState → Volume → Volume
+    → Type 0
+StopsAt Done Left paths old new volume volume' =
+    (before : List (List ℕ)) × (path : List ℕ) × (behind : List (List ℕ)) × (middle : StoreState) × (between : Volume) × (paths ≡ before ++ path ∷ behind)
+    × DoesAll Done before old middle volume between × Left path middle new between volume'
 
 -- those that were left out are told
 abbrev pub TellsEach : (Done Left : List ℕ → StoreState → StoreState → Volume → Volume → Type 0) → List (List ℕ) → Told → Told → StoreState → StoreState

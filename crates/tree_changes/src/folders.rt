@@ -2,6 +2,7 @@
 
 ghost use Rattle.std.specs.Prelude.{◌≡◌, map};
 ghost use Rattle.tree_changes.specs.Folders.{GivesUpFolder, IsFolderKept};
+ghost use Rattle.tree_changes.specs.Making.{HasFolder, HasFolders, IsLeftUnmade, IsUnmade, LacksFolders, Makes, MakesFolder};
 ghost use Rattle.tree_changes.specs.Paths.{AtPath, DoesPaths};
 
 use crate::attributes::attributes_with;
@@ -18,7 +19,14 @@ fn make_folder<S: FlushStore + Drop>(
     opened: &mut Opened<S>,
     alloc: Global,
     path: &str,
-) -> Result<(), Fault> {
+) -> Result<(), Fault>
+    ensures types { S.types_of opened.new.session.store ≡ S.types_of opened.old.session.store }
+    ensures folder { opened.new.folder ≡ opened.old.folder }
+    ensures told { opened.new.told ≡ opened.old.told }
+    ensures does { AtPath (MakesFolder (S.types_of opened.old.session.store) opened.old.folder)
+        (IsUnmade (S.types_of opened.old.session.store) opened.old.folder) path.now
+        (S.state_of opened.old.session.store) (S.state_of opened.new.session.store) opened.old.session.volume opened.new.session.volume result }
+{
     let place = place_of(&opened.session, alloc, opened.folder, path)?;
     let mkdir = Mkdir {
         directory: place.folder,
@@ -34,7 +42,14 @@ fn make_missing<S: FlushStore + Drop>(
     opened: &mut Opened<S>,
     alloc: Global,
     path: &str,
-) -> Result<(), Fault> {
+) -> Result<(), Fault>
+    ensures types { S.types_of opened.new.session.store ≡ S.types_of opened.old.session.store }
+    ensures folder { opened.new.folder ≡ opened.old.folder }
+    ensures told { opened.new.told ≡ opened.old.told }
+    ensures does { AtPath (HasFolder (S.types_of opened.old.session.store) opened.old.folder)
+        (IsUnmade (S.types_of opened.old.session.store) opened.old.folder) path.now
+        (S.state_of opened.old.session.store) (S.state_of opened.new.session.store) opened.old.session.volume opened.new.session.volume result }
+{
     let view = &opened.session;
     let found = match View::find(view, alloc, opened.folder, path.as_bytes(), true) {
         Ok(number) => view.node(number),
@@ -53,13 +68,17 @@ fn make_with_parents<S: FlushStore + Drop>(
     opened: &mut Opened<S>,
     alloc: Global,
     path: &str,
-) -> Result<(), Fault> {
+) -> Result<(), Fault>
+    ensures types { S.types_of opened.new.session.store ≡ S.types_of opened.old.session.store }
+    ensures folder { opened.new.folder ≡ opened.old.folder }
+    ensures told { opened.new.told ≡ opened.old.told }
+    ensures does { AtPath (HasFolders (S.types_of opened.old.session.store) opened.old.folder)
+        (LacksFolders (S.types_of opened.old.session.store) opened.old.folder) path.now
+        (S.state_of opened.old.session.store) (S.state_of opened.new.session.store) opened.old.session.volume opened.new.session.volume result }
+{
     for (end, byte) in path.bytes().enumerate() {
-        if byte == b'/'
-            && end > 0
-            && let Some(front) = path.get(..end)
-        {
-            make_missing(opened, alloc, front)?;
+        if byte == b'/' && end > 0 {
+            make_missing(opened, alloc, &path[..end])?;
         }
     }
     if path.is_empty() {
@@ -68,19 +87,43 @@ fn make_with_parents<S: FlushStore + Drop>(
     make_missing(opened, alloc, path)
 }
 
+/// Makes the folder of a path, with those above it where that is asked.
+fn make_one<S: FlushStore + Drop>(
+    opened: &mut Opened<S>,
+    alloc: Global,
+    path: &str,
+    has_parents: bool,
+) -> Result<(), Fault>
+    ensures types { S.types_of opened.new.session.store ≡ S.types_of opened.old.session.store }
+    ensures folder { opened.new.folder ≡ opened.old.folder }
+    ensures told { opened.new.told ≡ opened.old.told }
+    ensures does { AtPath (Makes has_parents (S.types_of opened.old.session.store) opened.old.folder)
+        (IsLeftUnmade has_parents (S.types_of opened.old.session.store) opened.old.folder) path.now
+        (S.state_of opened.old.session.store) (S.state_of opened.new.session.store) opened.old.session.volume opened.new.session.volume result }
+{
+    if has_parents {
+        make_with_parents(opened, alloc, path)
+    } else {
+        make_folder(opened, alloc, path)
+    }
+}
+
 /// `mkdir`: makes folders; with `has_parents` also those above them that are not there, and no fault is one that is there.
 pub fn make_folders<S: FlushStore + Drop>(
     opened: &mut Opened<S>,
     alloc: Global,
     paths: &[&str],
     has_parents: bool,
-) -> Result<(), Fault> {
+) -> Result<(), Fault>
+    ensures types { S.types_of opened.new.session.store ≡ S.types_of opened.old.session.store }
+    ensures folder { opened.new.folder ≡ opened.old.folder }
+    ensures does { DoesPaths (Makes has_parents (S.types_of opened.old.session.store) opened.old.folder)
+        (IsLeftUnmade has_parents (S.types_of opened.old.session.store) opened.old.folder) (map (λ path. path.now) paths.now)
+        opened.old.told opened.new.told (S.state_of opened.old.session.store) (S.state_of opened.new.session.store)
+        opened.old.session.volume opened.new.session.volume result }
+{
     for path in paths {
-        let done = if has_parents {
-            make_with_parents(opened, alloc, path)
-        } else {
-            make_folder(opened, alloc, path)
-        };
+        let done = make_one(opened, alloc, path, has_parents);
         opened.told.go_on(done)?;
     }
     Ok(())

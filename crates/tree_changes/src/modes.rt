@@ -1,5 +1,8 @@
 // Modes as they are told on a line.
 
+ghost use Rattle.std.specs.Prelude.{◌≡◌};
+ghost use Rattle.tree_changes.specs.Modes.{clause_applied, mode_applied};
+
 use std::alloc::{AllocError, Global};
 
 /// What a clause does with its bits.
@@ -116,7 +119,9 @@ fn read_octal(text: &str) -> Option<u16> {
 
 impl Clause {
     /// Permissions behind this clause, of a folder or of something else.
-    fn apply(self, permissions: u16, is_folder: bool) -> u16 {
+    fn apply(self, permissions: u16, is_folder: bool) -> u16
+        ensures { result ≡ clause_applied self permissions is_folder }
+    {
         let runs = self.is_large && (is_folder || permissions & 0o111 != 0);
         let bits = if runs { self.bits | 0o111 } else { self.bits };
         let bits = bits & self.mask;
@@ -146,7 +151,9 @@ impl Modes {
     }
 
     /// The permissions of something that has these, a folder or something else.
-    pub fn apply(&self, permissions: u16, is_folder: bool) -> u16 {
+    pub fn apply(&self, permissions: u16, is_folder: bool) -> u16
+        ensures { result ≡ mode_applied self.now permissions is_folder }
+    {
         if let Some(bits) = self.octal {
             return bits;
         }

@@ -1,5 +1,11 @@
 // The word `mv`.
 
+ghost use Rattle.std.specs.Prelude.{◌≡◌, Bool, IfOk, IsNone, IsTrue, Some, length, map, nat_lt};
+ghost use Rattle.tree_lines.specs.Places.{IsFolder};
+ghost use Rattle.tree_lines.specs.Trees.{IsThereIn};
+ghost use Rattle.tree_changes.specs.Moving.{CanReplace, HasBoth, HasGoal, IsUnmoved, MayGet, Moves};
+ghost use Rattle.tree_changes.specs.Paths.{AtPath, DoesPaths};
+
 use crate::removing::unlink;
 use flush_store::FlushStore;
 use std::alloc::{AllocError, Global};
@@ -19,7 +25,9 @@ pub fn goal_path(alloc: Global, to: &str, goal: Goal, name: &[u8]) -> Result<Vec
 }
 
 /// Why something can't take the place of what has a name, if it can't.
-pub fn reason_against(node: &Node, other: &Node) -> Option<Reason> {
+pub fn reason_against(node: &Node, other: &Node) -> Option<Reason>
+    ensures { IsNone result → CanReplace node.now other.now }
+{
     if node.number == other.number {
         return Some(Reason::Same);
     }
@@ -36,7 +44,10 @@ fn find_moved<S: FlushStore + Drop>(
     alloc: Global,
     path: &str,
     from: Place,
-) -> Result<Node, Fault> {
+) -> Result<Node, Fault>
+    ensures { IfOk result (λ node. IsThereIn (S.state_of opened.now.session.store) opened.now.session.volume from.entry.folder from.entry.name.now (Some node)
+        × (IsTrue from.entry.has_slash → IsFolder node)) }
+{
     match there(&opened.session, from) {
         Ok(Some(node)) if from.has_slash && !node.is_folder() => {
             Err(at(alloc, path, Reason::NoFolder))
@@ -54,7 +65,10 @@ fn is_taken<S: FlushStore + Drop>(
     path: &[u8],
     place: Place,
     node: &Node,
-) -> Result<bool, Fault> {
+) -> Result<bool, Fault>
+    ensures { IfOk result (λ taken. MayGet (S.state_of opened.now.session.store) opened.now.session.volume node.now place.entry.folder place.entry.name.now
+        place.entry.has_slash) }
+{
     match there(&opened.session, place) {
         Ok(Some(other)) => match reason_against(node, &other) {
             Some(reason) => Err(at_bytes(alloc, path, reason)),
@@ -74,7 +88,10 @@ fn has_both_names<S: FlushStore + Drop>(
     node: &Node,
     from: Place,
     place: Place,
-) -> bool {
+) -> bool
+    ensures { IsTrue result → HasBoth (S.state_of opened.now.session.store) opened.now.session.volume node.now from.entry.folder from.entry.name.now
+        place.entry.folder place.entry.name.now }
+{
     let is_one_name = from.folder == place.folder && from.name == place.name;
     match there(&opened.session, place) {
         Ok(Some(other)) => !node.is_folder() && !is_one_name && other.number == node.number,
@@ -88,9 +105,18 @@ fn move_one<S: FlushStore + Drop>(
     opened: &mut Opened<S>,
     alloc: Global,
     path: &str,
-    (to, goal): (&str, Goal),
+    to: (&str, Goal),
     given: &mut BTreeSet<Vec<u8>>,
-) -> Result<(), Fault> {
+) -> Result<(), Fault>
+    ensures types { S.types_of opened.new.session.store ≡ S.types_of opened.old.session.store }
+    ensures folder { opened.new.folder ≡ opened.old.folder }
+    ensures told { opened.new.told ≡ opened.old.told }
+    ensures does { (several : Bool) → HasGoal (S.state_of opened.old.session.store) opened.old.session.volume opened.old.folder to.entry.0.now several
+        to.entry.1 → AtPath (Moves (S.types_of opened.old.session.store) opened.old.folder to.entry.0.now several)
+        (IsUnmoved (S.types_of opened.old.session.store) opened.old.folder to.entry.0.now several) path.now
+        (S.state_of opened.old.session.store) (S.state_of opened.new.session.store) opened.old.session.volume opened.new.session.volume result }
+{
+    let (to, goal) = to;
     let from = place_of(&opened.session, alloc, opened.folder, path)?;
     let name = own_name(alloc, path)?;
     let node = find_moved(opened, alloc, path, from)?;
@@ -114,9 +140,12 @@ fn move_one<S: FlushStore + Drop>(
         new_directory: place.folder,
         new_name: place.name,
     };
-    opened.make_name(alloc, told_path, &rename)?;
-    let _is_new = given.insert(Vec::from_slice(alloc, place.name)?)?;
-    Ok(())
+    let is_new = given.insert(Vec::from_slice(alloc, place.name)?)?;
+    let done = opened.make_name(alloc, told_path, &rename);
+    if done.is_err() && is_new {
+        let _is_gone = given.remove(place.name);
+    }
+    done
 }
 
 /// `mv`: moves files, folders and symbolic links into a folder that is there, under their own names, or gives one another name. A file takes the place of one
@@ -126,7 +155,14 @@ pub fn rename<S: FlushStore + Drop>(
     alloc: Global,
     paths: &[&str],
     to: &str,
-) -> Result<(), Fault> {
+) -> Result<(), Fault>
+    ensures types { S.types_of opened.new.session.store ≡ S.types_of opened.old.session.store }
+    ensures folder { opened.new.folder ≡ opened.old.folder }
+    ensures does { DoesPaths (Moves (S.types_of opened.old.session.store) opened.old.folder to.now (nat_lt 1 (length paths.now)))
+        (IsUnmoved (S.types_of opened.old.session.store) opened.old.folder to.now (nat_lt 1 (length paths.now))) (map (λ path. path.now) paths.now)
+        opened.old.told opened.new.told (S.state_of opened.old.session.store) (S.state_of opened.new.session.store)
+        opened.old.session.volume opened.new.session.volume result }
+{
     let are_several = paths.len() > 1;
     let mut given = BTreeSet::new(alloc);
     for path in paths {

@@ -1,5 +1,8 @@
 // Owners as they are told on a line.
 
+ghost use Rattle.std.specs.Prelude.{◌≡◌};
+ghost use Rattle.tree_changes.specs.Attributes.{owner_of};
+
 use tree_lines::Node;
 use treefs_byte_plans::Owner;
 
@@ -40,7 +43,9 @@ impl Owners {
     }
 
     /// Who owns a node from then on.
-    pub fn owner_of(self, node: &Node) -> Owner {
+    pub fn owner_of(self, node: &Node) -> Owner
+        ensures { result ≡ owner_of self node.now }
+    {
         Owner {
             uid: self.uid.unwrap_or(node.uid),
             gid: self.gid.unwrap_or(node.gid),

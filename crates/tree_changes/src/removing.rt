@@ -1,5 +1,10 @@
 // The word `rm`.
 
+ghost use Rattle.std.specs.Prelude.{◌≡◌, MatchResult, false, map, true};
+ghost use Rattle.tree_changes.specs.Paths.{AtPath, DoesPaths};
+ghost use Rattle.tree_changes.specs.Removing.{IsKept, IsNameKept, Removes, RemovesNamed, TellsMissing, UnlinkIn};
+ghost use Rattle.tree_lines.specs.Answers.{Answers};
+
 use flush_store::FlushStore;
 use std::alloc::Global;
 use tree_lines::{Fault, Opened, Place, Reason, Step, Visit, Walk, at, own_name, place_of, there};
@@ -19,8 +24,15 @@ pub fn unlink<S: FlushStore + Drop>(
     opened: &mut Opened<S>,
     alloc: Global,
     path: &[u8],
-    (directory, name): (u32, &[u8]),
-) -> Result<(), Fault> {
+    place: (u32, &[u8]),
+) -> Result<(), Fault>
+    ensures types { S.types_of opened.new.session.store ≡ S.types_of opened.old.session.store }
+    ensures folder { opened.new.folder ≡ opened.old.folder }
+    ensures told { opened.new.told ≡ opened.old.told }
+    ensures does { Answers (UnlinkIn (S.types_of opened.old.session.store) opened.old.folder place.entry.0 place.entry.1.now
+        (S.state_of opened.old.session.store) (S.state_of opened.new.session.store) opened.old.session.volume opened.new.session.volume) result }
+{
+    let (directory, name) = place;
     opened.make(alloc, path, &Unlink { directory, name })
 }
 
@@ -29,8 +41,13 @@ fn end_folder<S: FlushStore + Drop>(
     opened: &mut Opened<S>,
     alloc: Global,
     path: &[u8],
-    (directory, name): (u32, &[u8]),
-) -> Result<(), Fault> {
+    place: (u32, &[u8]),
+) -> Result<(), Fault>
+    ensures types { S.types_of opened.new.session.store ≡ S.types_of opened.old.session.store }
+    ensures folder { opened.new.folder ≡ opened.old.folder }
+    ensures told { opened.new.told ≡ opened.old.told }
+{
+    let (directory, name) = place;
     opened.make(alloc, path, &Rmdir { directory, name })
 }
 
@@ -51,9 +68,13 @@ fn remove_step<S: FlushStore + Drop>(
     opened: &mut Opened<S>,
     alloc: Global,
     walk: &Walk,
-    (step, is_left_behind): (&Step, bool),
+    met: (&Step, bool),
     is_whole: bool,
-) -> Result<bool, Fault> {
+) -> Result<bool, Fault>
+    ensures types { S.types_of opened.new.session.store ≡ S.types_of opened.old.session.store }
+    ensures folder { opened.new.folder ≡ opened.old.folder }
+{
+    let (step, is_left_behind) = met;
     let place = (step.folder, step.name.as_slice());
     let done = if is_left_behind {
         end_folder(opened, alloc, walk.path(), place)
@@ -75,7 +96,10 @@ fn next_step<S: FlushStore + Drop>(
     opened: &mut Opened<S>,
     alloc: Global,
     walk: &mut Walk,
-) -> Result<(Option<(Step, bool)>, bool), Fault> {
+) -> Result<(Option<(Step, bool)>, bool), Fault>
+    ensures types { S.types_of opened.new.session.store ≡ S.types_of opened.old.session.store }
+    ensures folder { opened.new.folder ≡ opened.old.folder }
+{
     let before = opened.told.count();
     let visit = walk.next(&opened.session, alloc, &mut opened.told)?;
     let is_unseen = opened.told.count() > before;
@@ -93,7 +117,10 @@ fn empty_folder<S: FlushStore + Drop>(
     alloc: Global,
     path: &str,
     folder: u32,
-) -> Result<bool, Fault> {
+) -> Result<bool, Fault>
+    ensures types { S.types_of opened.new.session.store ≡ S.types_of opened.old.session.store }
+    ensures folder { opened.new.folder ≡ opened.old.folder }
+{
     let mut is_whole = true;
     let mut walk = Walk::below(alloc, path.as_bytes(), folder)?;
     for _name in 0..u64::MAX {
@@ -118,7 +145,17 @@ fn remove_named<S: FlushStore + Drop>(
     path: &str,
     place: Place,
     how: Removing,
-) -> Result<(), Fault> {
+) -> Result<(), Fault>
+    ensures types { S.types_of opened.new.session.store ≡ S.types_of opened.old.session.store }
+    ensures folder { opened.new.folder ≡ opened.old.folder }
+    ensures told { how.is_recursive ≡ false → opened.new.told ≡ opened.old.told }
+    ensures does { how.is_recursive ≡ false → MatchResult result
+        (λ done. RemovesNamed how.is_forced (S.types_of opened.old.session.store) opened.old.folder place.entry.folder place.entry.name.now
+        place.entry.has_slash
+        (S.state_of opened.old.session.store) (S.state_of opened.new.session.store) opened.old.session.volume opened.new.session.volume)
+        (λ fault. IsNameKept (S.types_of opened.old.session.store) opened.old.folder place.entry.folder place.entry.name.now place.entry.has_slash
+        (S.state_of opened.old.session.store) (S.state_of opened.new.session.store) opened.old.session.volume opened.new.session.volume) }
+{
     let node = match there(&opened.session, place) {
         Ok(Some(node)) => node,
         Ok(None) if how.is_forced => return Ok(()),
@@ -141,7 +178,9 @@ fn remove_named<S: FlushStore + Drop>(
 }
 
 /// Whether a fault is that of a path that leads to nothing.
-fn is_missing(fault: &Fault) -> bool {
+fn is_missing(fault: &Fault) -> bool
+    ensures { result ≡ true → TellsMissing fault.now }
+{
     match fault {
         Fault::At {
             path: _,
@@ -157,7 +196,15 @@ fn remove_one<S: FlushStore + Drop>(
     alloc: Global,
     path: &str,
     how: Removing,
-) -> Result<(), Fault> {
+) -> Result<(), Fault>
+    ensures types { S.types_of opened.new.session.store ≡ S.types_of opened.old.session.store }
+    ensures folder { opened.new.folder ≡ opened.old.folder }
+    ensures told { how.is_recursive ≡ false → opened.new.told ≡ opened.old.told }
+    ensures does { how.is_recursive ≡ false →
+        AtPath (Removes how.is_forced (S.types_of opened.old.session.store) opened.old.folder)
+        (IsKept (S.types_of opened.old.session.store) opened.old.folder) path.now
+        (S.state_of opened.old.session.store) (S.state_of opened.new.session.store) opened.old.session.volume opened.new.session.volume result }
+{
     match place_of(&opened.session, alloc, opened.folder, path) {
         Ok(place) => {
             let _own = own_name(alloc, path)?;
@@ -174,7 +221,15 @@ pub fn remove<S: FlushStore + Drop>(
     alloc: Global,
     paths: &[&str],
     how: Removing,
-) -> Result<(), Fault> {
+) -> Result<(), Fault>
+    ensures types { S.types_of opened.new.session.store ≡ S.types_of opened.old.session.store }
+    ensures folder { opened.new.folder ≡ opened.old.folder }
+    ensures does { how.is_recursive ≡ false →
+        DoesPaths (Removes how.is_forced (S.types_of opened.old.session.store) opened.old.folder)
+        (IsKept (S.types_of opened.old.session.store) opened.old.folder) (map (λ path. path.now) paths.now)
+        opened.old.told opened.new.told (S.state_of opened.old.session.store) (S.state_of opened.new.session.store)
+        opened.old.session.volume opened.new.session.volume result }
+{
     for path in paths {
         let done = remove_one(opened, alloc, path, how);
         opened.told.go_on(done)?;

@@ -1,5 +1,10 @@
 // The words `chmod` and `chown`.
 
+ghost use Rattle.std.specs.Prelude.{◌≡◌, false, map};
+ghost use Rattle.tree_changes.specs.Attributes.{IsSet, IsUnset, SetsIfAny, set_of};
+ghost use Rattle.tree_changes.specs.Paths.{AtPath, DoesPaths};
+ghost use Rattle.tree_lines.specs.Answers.{Answers};
+
 use crate::modes::Modes;
 use crate::owners::Owners;
 use flush_store::FlushStore;
@@ -17,7 +22,9 @@ pub enum Setting {
 
 impl Setting {
     /// What is set of a node; nothing of the modes of symbolic links.
-    fn attributes_of(&self, node: &Node) -> Option<Attributes> {
+    fn attributes_of(&self, node: &Node) -> Option<Attributes>
+        ensures { result ≡ set_of self.now node.now }
+    {
         match self {
             Setting::Modes(_) if node.is_link() => None,
             Setting::Modes(modes) => Some(Attributes {
@@ -41,7 +48,13 @@ fn set_node<S: FlushStore + Drop>(
     path: &[u8],
     node: &Node,
     setting: &Setting,
-) -> Result<(), Fault> {
+) -> Result<(), Fault>
+    ensures types { S.types_of opened.new.session.store ≡ S.types_of opened.old.session.store }
+    ensures folder { opened.new.folder ≡ opened.old.folder }
+    ensures told { opened.new.told ≡ opened.old.told }
+    ensures does { Answers (SetsIfAny (S.types_of opened.old.session.store) opened.old.folder node.now.number (set_of setting.now node.now)
+        (S.state_of opened.old.session.store) (S.state_of opened.new.session.store) opened.old.session.volume opened.new.session.volume) result }
+{
     match setting.attributes_of(node) {
         Some(settings) => {
             let set = SetAttributes {
@@ -61,7 +74,10 @@ fn set_below<S: FlushStore + Drop>(
     path: &str,
     folder: u32,
     setting: &Setting,
-) -> Result<(), Fault> {
+) -> Result<(), Fault>
+    ensures types { S.types_of opened.new.session.store ≡ S.types_of opened.old.session.store }
+    ensures folder { opened.new.folder ≡ opened.old.folder }
+{
     let mut walk = Walk::below(alloc, path.as_bytes(), folder)?;
     for _name in 0..u64::MAX {
         let Some(step) = walk.next_met(&opened.session, alloc, &mut opened.told)? else {
@@ -80,7 +96,15 @@ fn set_one<S: FlushStore + Drop>(
     path: &str,
     setting: &Setting,
     is_recursive: bool,
-) -> Result<(), Fault> {
+) -> Result<(), Fault>
+    ensures types { S.types_of opened.new.session.store ≡ S.types_of opened.old.session.store }
+    ensures folder { opened.new.folder ≡ opened.old.folder }
+    ensures told { is_recursive ≡ false → opened.new.told ≡ opened.old.told }
+    ensures does { is_recursive ≡ false →
+        AtPath (IsSet setting.now (S.types_of opened.old.session.store) opened.old.folder)
+        (IsUnset setting.now (S.types_of opened.old.session.store) opened.old.folder) path.now
+        (S.state_of opened.old.session.store) (S.state_of opened.new.session.store) opened.old.session.volume opened.new.session.volume result }
+{
     let node = find(&opened.session, alloc, opened.folder, path, true)?;
     set_node(opened, alloc, path.as_bytes(), &node, setting)?;
     if is_recursive && node.is_folder() {
@@ -97,7 +121,15 @@ pub fn set_attributes<S: FlushStore + Drop>(
     paths: &[&str],
     setting: &Setting,
     is_recursive: bool,
-) -> Result<(), Fault> {
+) -> Result<(), Fault>
+    ensures types { S.types_of opened.new.session.store ≡ S.types_of opened.old.session.store }
+    ensures folder { opened.new.folder ≡ opened.old.folder }
+    ensures does { is_recursive ≡ false →
+        DoesPaths (IsSet setting.now (S.types_of opened.old.session.store) opened.old.folder)
+        (IsUnset setting.now (S.types_of opened.old.session.store) opened.old.folder) (map (λ path. path.now) paths.now)
+        opened.old.told opened.new.told (S.state_of opened.old.session.store) (S.state_of opened.new.session.store)
+        opened.old.session.volume opened.new.session.volume result }
+{
     for path in paths {
         let done = set_one(opened, alloc, path, setting, is_recursive);
         opened.told.go_on(done)?;

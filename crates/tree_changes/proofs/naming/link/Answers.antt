@@ -1,4 +1,4 @@
-use Rattle.std.proofs.Common.{◌∙◌, ◌≡◌, ℕ, Result, false, inr, refl, sym}
+use Rattle.std.proofs.Common.{◌∙◌, ◌≡◌, ℕ, Result, false, inr, sym}
 use Rattle.tree_lines.specs.Looks.{FindsPath, node_seen}
 use Rattle.tree_lines.specs.declared.node.Node.{Node}
 use Rattle.tree_lines.specs.declared.reason.Reason.{Reason}
