@@ -272,11 +272,11 @@ pub written_few : (files files' : Files) (time : ℤ) (n at : ℕ) (bytes : List
     at + taken ≤ greatest_size → HasFewBytes files m → HasFewBytes files' m
 written_few files files' time n at bytes taken m is end few =
     let over : Files = changed_at files n (rewritten time (λ b. overwritten b at (take taken bytes))) in
-    let a = then_ok (file_at files n) (λ old. if (length bytes == 0) then Ok files else if nat_le greatest_size at then Err TooLarge else Ok over) files' is in
-    elim (if_done (length bytes == 0) (Ok files) (if nat_le greatest_size at then Err TooLarge else Ok over) files' a.2) [
-      | inl same ↦ done_few files files' m same few
-      | inr some ↦ elim (if_done (nat_le greatest_size at) (Err TooLarge) (Ok over) files' some) [
-        | inl e ↦ absurd (cc e)
+    let a = then_ok (file_at files n) (λ old. if nat_le greatest_size at then Err TooLarge else if (length bytes == 0) then Ok files else Ok over) files' is in
+    elim (if_done (nat_le greatest_size at) (Err TooLarge) (if (length bytes == 0) then Ok files else Ok over) files' a.2) [
+      | inl e ↦ absurd (cc e)
+      | inr low ↦ elim (if_done (length bytes == 0) (Ok files) (Ok over) files' low) [
+        | inl same ↦ done_few files files' m same few
         | inr done ↦
             done_few over files' m done (rewritten_few files time n (λ b. overwritten b at (take taken bytes))
             (λ b f. let l = overwritten_long at (take taken bytes) b in let t = length-take taken bytes in omega arith) m few)

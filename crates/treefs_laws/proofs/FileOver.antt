@@ -95,23 +95,23 @@ module _ (T : Types) (known : IsLayout) (state : StoreState) (volume : Volume) (
   pub if_file : (g : Result Files Fault) → and_then (file_at seen n) (λ old. g) ≡ g
   if_file g = ap (λ r. and_then (and_then r (λ inode. bytes_in inode.content)) (λ old. g)) value_found ∙ known_bytes x.kind file_there.no_directory g
 
+  over : ℕ → List ℕ → ℕ → Files
+  over at bytes taken = changed_at seen n (rewritten clock (λ b. overwritten b at (take taken bytes)))
+
+  written_below : (at : ℕ) (bytes : List ℕ) (taken : ℕ) → at < greatest_size →
+      written_files seen clock n at bytes taken ≡ (if (length bytes == 0) then Ok seen else Ok (over at bytes taken))
+  written_below at bytes taken low =
+      if_file (if nat_le greatest_size at then Err TooLarge else if (length bytes == 0) then Ok seen else Ok (over at bytes taken))
+      ∙ ap (λ t. if t then Err TooLarge else if (length bytes == 0) then Ok seen else Ok (over at bytes taken)) (lt-leb greatest_size at low)
+
   pub written_some : (at : ℕ) (bytes : List ℕ) (taken : ℕ) → length bytes ≢ 0 → at < greatest_size →
       written_files seen clock n at bytes taken ≡ Ok (changed_at seen n (rewritten clock (λ b. overwritten b at (take taken bytes))))
   written_some at bytes taken some low =
-      if_file (if (length bytes == 0) then Ok seen else if nat_le greatest_size at then Err TooLarge
-      else Ok (changed_at seen n (rewritten clock (λ b. overwritten b at (take taken bytes)))))
-      ∙ (ap (λ t. if t then Ok seen else if nat_le greatest_size at then Err TooLarge else Ok
-      (changed_at seen n (rewritten clock (λ b. overwritten b at (take taken bytes)))))
-      (ne_eqb (length bytes) 0 some)
-      ∙ ap (λ t. if t then Err TooLarge else Ok (changed_at seen n (rewritten clock (λ b. overwritten b at (take taken bytes))))) (lt-leb greatest_size at low))
+      written_below at bytes taken low ∙ ap (λ t. if t then Ok seen else Ok (over at bytes taken)) (ne_eqb (length bytes) 0 some)
 
-  pub written_none : (at : ℕ) (bytes : List ℕ) (taken : ℕ) → length bytes ≡ 0 → written_files seen clock n at bytes taken ≡ Ok seen
-  written_none at bytes taken none =
-      if_file (if (length bytes == 0) then Ok seen else if nat_le greatest_size at then Err TooLarge
-      else Ok (changed_at seen n (rewritten clock (λ b. overwritten b at (take taken bytes)))))
-      ∙ ap (λ t. if t then Ok seen else if nat_le greatest_size at then Err TooLarge else Ok
-      (changed_at seen n (rewritten clock (λ b. overwritten b at (take taken bytes)))))
-      (eq-eqb (length bytes) 0 none)
+  pub written_none : (at : ℕ) (bytes : List ℕ) (taken : ℕ) → length bytes ≡ 0 → at < greatest_size → written_files seen clock n at bytes taken ≡ Ok seen
+  written_none at bytes taken none low =
+      written_below at bytes taken low ∙ ap (λ t. if t then Ok seen else Ok (over at bytes taken)) (eq-eqb (length bytes) 0 none)
 
   -- What is read then
 

@@ -54,7 +54,7 @@ module _ (laws : AreAttached) (T : Types) (known : IsLayout) (old : StoreState) 
         subst (λ w. Done new w taken) (sym v) (subst (λ t. Done t volume taken) (sym s) (
           open_there,
           ap (λ g. written_files g volume.memory.clock number at bytes taken) (sym same) ∙ written_none T known middle volume open_there number x x_is at
-              bytes taken none,
+              bytes taken none low,
           omega arith,
           λ some. absurd (omega arith),
           omega arith,

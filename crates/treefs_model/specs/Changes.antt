@@ -141,7 +141,7 @@ rewritten time change inode = record (touched time inode) { content = with_bytes
 -- the bytes that are taken of those given: all, or a beginning of them
 abbrev pub written : Files → ℤ → ℕ → ℕ → List ℕ → ℕ → Result Files Fault
 written files time n at bytes taken =
-    and_then (file_at files n) (λ old. if (length bytes == 0) then Ok files else if nat_le greatest_size at then Err TooLarge
+    and_then (file_at files n) (λ old. if nat_le greatest_size at then Err TooLarge else if (length bytes == 0) then Ok files
     else Ok (changed_at files n (rewritten time (λ b. overwritten b at (take taken bytes)))))
 
 abbrev pub truncated : Files → ℤ → ℕ → ℕ → Result Files Fault

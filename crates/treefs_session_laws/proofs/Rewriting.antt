@@ -154,7 +154,7 @@ module _ (Among : ℕ → Type 0) (tells : (n : ℕ) → Among n ⊎ (Among n �
     written_so = by (file_at old n) refl (length bytes == 0) (ne_eqb (length bytes) 0 some_bytes) (nat_le greatest_size at) is
       where
         by : (r : Result (List ℕ) Fault) → file_at old n ≡ r → (t : Bool) → t ≡ false → (u : Bool) →
-            and_then r (λ b. if t then Ok old else if u then Err TooLarge else Ok over) ≡ Ok new →
+            and_then r (λ b. if u then Err TooLarge else if t then Ok old else Ok over) ≡ Ok new →
             (there : List ℕ) × (file_at old n ≡ Ok there) × (new ≡ over)
         by (Err fault) there t none u e = absurd (cc e)
         by (Ok b) there true none u e = absurd (cc none)
@@ -234,9 +234,9 @@ module _ (Among : ℕ → Type 0) (tells : (n : ℕ) → Among n ⊎ (Among n �
         written old clock n at bytes k ≡ Ok (changed_at old n (rewritten clock (λ b. overwritten b at (take k bytes))))
     written_files some some_bytes h =
         let e = h.small in
-        ap (λ r. and_then r (λ b. if (length bytes == 0) then Ok old else if nat_le greatest_size at then Err TooLarge else Ok over)) h.there
-        ∙ (ap (λ t. if t then Ok old else if nat_le greatest_size at then Err TooLarge else Ok over) (ne_eqb (length bytes) 0 some_bytes)
-        ∙ ap (λ t. if t then Err TooLarge else Ok over) (low (omega arith)))
+        ap (λ r. and_then r (λ b. if nat_le greatest_size at then Err TooLarge else if (length bytes == 0) then Ok old else Ok over)) h.there
+        ∙ (ap (λ t. if t then Err TooLarge else if (length bytes == 0) then Ok old else Ok over) (low (omega arith))
+        ∙ ap (λ t. if t then Ok old else Ok over) (ne_eqb (length bytes) 0 some_bytes))
       where
         over : Files
         over = changed_at old n (rewritten clock (λ b. overwritten b at (take k bytes)))
