@@ -95,7 +95,7 @@ module _ (T : Types) (known : IsLayout) (state : StoreState) (volume : Volume) (
   pub if_file : (g : Result Files Fault) → and_then (file_at seen n) (λ old. g) ≡ g
   if_file g = ap (λ r. and_then (and_then r (λ inode. bytes_in inode.content)) (λ old. g)) value_found ∙ known_bytes x.kind file_there.no_directory g
 
-  over : ℕ → List ℕ → ℕ → Files
+  abbrev over : ℕ → List ℕ → ℕ → Files
   over at bytes taken = changed_at seen n (rewritten clock (λ b. overwritten b at (take taken bytes)))
 
   written_below : (at : ℕ) (bytes : List ℕ) (taken : ℕ) → at < greatest_size →
