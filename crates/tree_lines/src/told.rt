@@ -1,6 +1,6 @@
 // Faults that end nothing, and are told at the end of a line.
 
-ghost use Rattle.std.specs.Prelude.{◌≡◌, ◌==◌, IfOk, length};
+ghost use Rattle.std.specs.Prelude.{◌≡◌, ◌<◌, ◌==◌, IfOk, length};
 ghost use Rattle.tree_lines.specs.Telling.{GoesOn, LeavesOut};
 
 use crate::fault::Fault;
@@ -68,7 +68,9 @@ impl Told {
     }
 
     /// What is to be told of a line, of which nothing is kept any more.
-    pub fn take(&mut self, alloc: Global) -> Vec<Fault> {
+    pub fn take(&mut self, alloc: Global) -> Vec<Fault>
+        ensures { 0 < length self.old.faults.items → 0 < length result.items }
+    {
         let mut told = Vec::new(alloc);
         std::mem::swap(&mut told, &mut self.faults);
         if self.more > 0 {

@@ -1,5 +1,8 @@
 // Words that change a volume.
 
+ghost use Rattle.std.specs.Prelude.{◌≡◌, is_some, map};
+ghost use Rattle.xnfs_line.specs.Words.{ModesDo, NamesDo, OwnersDo, TimesDo, WordDoes};
+
 use flush_store::FlushStore;
 use host_trees::Host;
 use std::alloc::Global;
@@ -35,9 +38,16 @@ const DATE: &str =
 fn change_mode<S: FlushStore + Drop>(
     opened: &mut Opened<S>,
     alloc: Global,
-    (mode, paths): (&str, &[&str]),
+    told: (&str, &[&str]),
     is_recursive: bool,
-) -> Result<(), Fault> {
+) -> Result<(), Fault>
+    ensures types { S.types_of opened.new.session.store ≡ S.types_of opened.old.session.store }
+    ensures folder { opened.new.folder ≡ opened.old.folder }
+    ensures does { ModesDo (S.types_of opened.old.session.store) opened.old.folder (map (λ path. path.now) told.entry.1.now) is_recursive
+        opened.old.told opened.new.told (S.state_of opened.old.session.store) (S.state_of opened.new.session.store)
+        opened.old.session.volume opened.new.session.volume result }
+{
+    let (mode, paths) = told;
     match Modes::read(alloc, mode)? {
         Some(modes) => set_attributes(opened, alloc, paths, &Setting::Modes(modes), is_recursive),
         None => Err(at_word(alloc, mode, MODE)),
@@ -48,9 +58,16 @@ fn change_mode<S: FlushStore + Drop>(
 fn change_owner<S: FlushStore + Drop>(
     opened: &mut Opened<S>,
     alloc: Global,
-    (owner, paths): (&str, &[&str]),
+    told: (&str, &[&str]),
     is_recursive: bool,
-) -> Result<(), Fault> {
+) -> Result<(), Fault>
+    ensures types { S.types_of opened.new.session.store ≡ S.types_of opened.old.session.store }
+    ensures folder { opened.new.folder ≡ opened.old.folder }
+    ensures does { OwnersDo (S.types_of opened.old.session.store) opened.old.folder (map (λ path. path.now) told.entry.1.now) is_recursive
+        opened.old.told opened.new.told (S.state_of opened.old.session.store) (S.state_of opened.new.session.store)
+        opened.old.session.volume opened.new.session.volume result }
+{
+    let (owner, paths) = told;
     match Owners::read(owner) {
         Some(owners) => {
             set_attributes(opened, alloc, paths, &Setting::Owners(owners), is_recursive)
@@ -65,7 +82,13 @@ fn set_times<S: FlushStore + Drop>(
     alloc: Global,
     paths: &[&str],
     date: Option<&str>,
-) -> Result<(), Fault> {
+) -> Result<(), Fault>
+    ensures types { S.types_of opened.new.session.store ≡ S.types_of opened.old.session.store }
+    ensures folder { opened.new.folder ≡ opened.old.folder }
+    ensures does { TimesDo (S.types_of opened.old.session.store) opened.old.folder (map (λ path. path.now) paths.now) (is_some date.entry)
+        opened.old.told opened.new.told (S.state_of opened.old.session.store) (S.state_of opened.new.session.store)
+        opened.old.session.volume opened.new.session.volume result }
+{
     let Some(date) = date else {
         return touch(opened, alloc, paths, None);
     };
@@ -80,9 +103,16 @@ fn change_names<'a, H: Host, S: FlushStore + Drop>(
     host: &H,
     opened: &mut Opened<S>,
     alloc: Global,
-    (word, sources): (&'a Word<'a>, Sources<'a>),
+    asked: (&'a Word<'a>, Sources<'a>),
     input: &mut impl Read,
-) -> Result<(), Fault> {
+) -> Result<(), Fault>
+    ensures types { S.types_of opened.new.session.store ≡ S.types_of opened.old.session.store }
+    ensures folder { opened.new.folder ≡ opened.old.folder }
+    ensures does { NamesDo (S.types_of opened.old.session.store) opened.old.folder asked.entry.0.now
+        opened.old.told opened.new.told (S.state_of opened.old.session.store) (S.state_of opened.new.session.store)
+        opened.old.session.volume opened.new.session.volume result }
+{
+    let (word, sources) = asked;
     match word {
         Word::Put {
             sources: paths,
@@ -127,9 +157,16 @@ pub fn change<H: Host, S: FlushStore + Drop>(
     host: &H,
     opened: &mut Opened<S>,
     alloc: Global,
-    (word, sources): (&Word, Sources),
+    asked: (&Word, Sources),
     input: &mut impl Read,
-) -> Result<(), Fault> {
+) -> Result<(), Fault>
+    ensures types { S.types_of opened.new.session.store ≡ S.types_of opened.old.session.store }
+    ensures folder { opened.new.folder ≡ opened.old.folder }
+    ensures does { WordDoes (S.types_of opened.old.session.store) opened.old.folder asked.entry.0.now
+        opened.old.told opened.new.told (S.state_of opened.old.session.store) (S.state_of opened.new.session.store)
+        opened.old.session.volume opened.new.session.volume result }
+{
+    let (word, sources) = asked;
     match word {
         Word::Link {
             target,

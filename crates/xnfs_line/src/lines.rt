@@ -1,7 +1,9 @@
 // A line of the program.
 
-ghost use Rattle.std.specs.Prelude.{IfOk};
+ghost use Rattle.std.specs.Prelude.{◌≡◌, IfOk, length};
 ghost use Rattle.flush_store.specs.Written.{AllWritten};
+ghost use Rattle.treefs_session.specs.Opening.{Closes};
+ghost use Rattle.xnfs_line.specs.Lines.{AskedDoes, ChangesVolume};
 
 use crate::changing::Sources;
 use crate::fault::LineFault;
@@ -53,7 +55,9 @@ fn file_system(number: u8) -> Result<Fs, LineFault> {
 }
 
 /// Tells what a line has left out, and answers its status.
-fn status_of(told: &[Fault], image: &str, out: &mut impl Write, err: &mut impl Write) -> u8 {
+fn status_of(told: &[Fault], image: &str, out: &mut impl Write, err: &mut impl Write) -> u8
+    ensures { result ≡ 0 → length told.now ≡ 0 }
+{
     for fault in told {
         let _ = tell(out, err, image, fault);
     }
@@ -63,9 +67,12 @@ fn status_of(told: &[Fault], image: &str, out: &mut impl Write, err: &mut impl W
 /// The volume of trees of a store, to be looked at.
 fn open_to_look<S: FlushStore + Drop>(
     alloc: Global,
-    (store, types): (S, BlockTypes),
+    volume: (S, BlockTypes),
     asked: &Asked,
-) -> Result<Session<S>, LineFault> {
+) -> Result<Session<S>, LineFault>
+    ensures { IfOk result (λ session. session.store ≡ volume.0) }
+{
+    let (store, types) = volume;
     match Session::open_to_look(alloc, store, asked.fs, types, asked.time) {
         Ok(session) => Ok(session),
         Err(fault) => Err(Fault::Volume(reason_of(fault, 0)).into()),
@@ -120,14 +127,19 @@ fn look_at_first<H: Host, S: FlushStore + Drop>(
 
 /// Does what the word of a line, or of each line of a shell, asks for on an open volume, and answers the status.
 fn run_opened<H: Host, S: FlushStore + Drop>(
-    (host, clock): (&H, &impl Clock),
+    outside: (&H, &impl Clock),
     opened: &mut Opened<S>,
     alloc: Global,
     asked: &Asked,
     input: &mut impl BufRead,
     out: &mut impl Write,
     err: &mut impl Write,
-) -> Result<u8, LineFault> {
+) -> Result<u8, LineFault>
+    ensures types { S.types_of opened.new.session.store ≡ S.types_of opened.old.session.store }
+    ensures does { AskedDoes (S.types_of opened.old.session.store) asked.now.word opened.old.folder opened.new.folder
+        (S.state_of opened.old.session.store) (S.state_of opened.new.session.store) opened.old.session.volume opened.new.session.volume
+        opened.old.told result }
+{
     let image = asked.image;
     if let Word::Shell { is_lazy } = &asked.word {
         let shell = Shell {
@@ -135,13 +147,13 @@ fn run_opened<H: Host, S: FlushStore + Drop>(
             is_lazy: *is_lazy,
             terminal: asked.terminal,
         };
-        return run_shell((host, clock), opened, alloc, shell, input, out, err);
+        return run_shell(outside, opened, alloc, shell, input, out, err);
     }
     let sources = Sources {
         disk: image,
         has_lines: false,
     };
-    let done = run_word(host, opened, alloc, (&asked.word, sources), input, out);
+    let done = run_word(outside.0, opened, alloc, (&asked.word, sources), input, out);
     let status = status_of(&opened.told.take(alloc), image, out, err);
     done?;
     Ok(status)
@@ -151,10 +163,13 @@ fn run_opened<H: Host, S: FlushStore + Drop>(
 /// it is where it is damaged: the fault is `Faults`. `check --repair` may mend it, and prints what it will mend; its faults are those of `look_to_repair`.
 fn look_before<S: FlushStore + Drop>(
     alloc: Global,
-    (store, types): (S, BlockTypes),
+    volume: (S, BlockTypes),
     asked: &Asked,
     out: &mut impl Write,
-) -> Result<(S, bool), LineFault> {
+) -> Result<(S, bool), LineFault>
+    ensures { IfOk result (λ looked. looked.0 ≡ volume.0) }
+{
+    let (store, types) = volume;
     let session = open_to_look(alloc, (store, types), asked)?;
     let (store, tree) = (session.store(), session.volume().tree);
     let is_closed = session.volume().is_closed(store);
@@ -168,8 +183,8 @@ fn look_before<S: FlushStore + Drop>(
     }
 }
 
-/// Closes a volume behind what a word did on it, and answers the status of that with the store: all is on the disk then. After a failure of the disk nothing more
-/// is written, so that its fault is the one that is told.
+/// Closes a volume behind what a word did on it, and answers that with the store: all is on the disk then. After a failure of the disk nothing more is written, so
+/// that its fault is the one that is told.
 fn close_behind<S: FlushStore + Drop>(
     alloc: Global,
     opened: Opened<S>,
@@ -177,7 +192,11 @@ fn close_behind<S: FlushStore + Drop>(
     image: &str,
     out: &mut impl Write,
     err: &mut impl Write,
-) -> Result<(u8, S), LineFault>
+) -> Result<(Result<u8, LineFault>, S), LineFault>
+    ensures done { IfOk result (λ ended. ended.0 ≡ done) }
+    ensures types { IfOk result (λ ended. S.types_of ended.1 ≡ S.types_of opened.session.store) }
+    ensures closes { IfOk result (λ ended. Closes (S.types_of opened.session.store) (S.state_of opened.session.store) (S.state_of ended.1)
+        opened.session.volume) }
     ensures written { IfOk result (λ ended. AllWritten (S.state_of ended.1).lives) }
 {
     if opened.is_broken() {
@@ -187,7 +206,7 @@ fn close_behind<S: FlushStore + Drop>(
         };
     }
     match opened.close(alloc) {
-        Ok(store) => Ok((done?, store)),
+        Ok(store) => Ok((done, store)),
         Err(fault) => {
             if let Err(first) = done {
                 let _ = tell(out, err, image, &first);
@@ -198,7 +217,7 @@ fn close_behind<S: FlushStore + Drop>(
 }
 
 /// Does what a word asks for on a volume of trees that is not damaged, mended where a crash left it or a repair is asked for, and closes that. Answers the status,
-/// and the store: where no fault ends the line all that it did is on the disk.
+/// or the fault that ended the word, with the store: all that was done is on the disk then. The fault is that of an opening or a closing, or of a disk that fails.
 fn change_trees<H: Host, S: FlushStore + Drop>(
     outside: (&H, &impl Clock),
     alloc: Global,
@@ -207,7 +226,10 @@ fn change_trees<H: Host, S: FlushStore + Drop>(
     input: &mut impl BufRead,
     out: &mut impl Write,
     err: &mut impl Write,
-) -> Result<(u8, S), LineFault>
+) -> Result<(Result<u8, LineFault>, S), LineFault>
+    ensures types { IfOk result (λ ended. S.types_of ended.1 ≡ S.types_of volume.0) }
+    ensures does { IfOk result (λ ended. ChangesVolume (S.types_of volume.0) asked.now.fs volume.1 asked.now.time asked.now.word
+        (S.state_of volume.0) (S.state_of ended.1) ended.0) }
     ensures written { IfOk result (λ ended. AllWritten (S.state_of ended.1).lives) }
 {
     let (store, types, system) = volume;
@@ -237,8 +259,9 @@ fn run_disk<H: Host, S: FlushStore + Drop>(
         }
         VolumeKind::Trees(types) => {
             let volume = (store, types, system);
-            let changed = change_trees((host, clock), alloc, volume, asked, input, out, err)?;
-            Ok(changed.0)
+            let (done, _store) =
+                change_trees((host, clock), alloc, volume, asked, input, out, err)?;
+            done
         }
         VolumeKind::First => look_at_first(host, alloc, store, asked, out, err),
     }

@@ -1,5 +1,8 @@
 // Words that only look.
 
+ghost use Rattle.std.specs.Prelude.{◌≡◌};
+ghost use Rattle.xnfs_line.specs.Words.{only_looks};
+
 use host_trees::Host;
 use std::alloc::Global;
 use std::io::Write;
@@ -12,7 +15,9 @@ use treefs_format::Kind;
 use xnfs_words::{FoundKind, ListForm, Word};
 
 /// Whether a word changes no disk, so that one is opened for it without rights to write.
-pub fn is_looking(word: &Word) -> bool {
+pub fn is_looking(word: &Word) -> bool
+    ensures { result ≡ only_looks word.now }
+{
     matches!(
         word,
         Word::List { .. }

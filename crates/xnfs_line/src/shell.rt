@@ -1,10 +1,11 @@
 // A shell: words read line by line, done on one open volume.
 
-ghost use Rattle.std.specs.Prelude.{OnOk};
-ghost use Rattle.flush_store.specs.Written.{AllWritten};
+ghost use Rattle.std.specs.Prelude.{◌≡◌, ℕ, IfOk, MatchResult, Ok, length};
+ghost use Rattle.xnfs_line.specs.Shells.{IsFolderAt, IsWritten, NextLineDoes, ShellLineDoes, ShellRuns, ShellWordDoes, WordThenWritten, ended_status, of_shell};
 
 use crate::changing::Sources;
 use crate::fault::LineFault;
+use crate::looking::is_looking;
 use crate::status::{DONE, FAILED, USAGE};
 use crate::system::{Terminal, time_of};
 use crate::telling::told_unknown;
@@ -41,6 +42,8 @@ enum Ended {
     Failed,
     /// Its words could not be read, which was told.
     Unread,
+    /// It is too long, which was told. No further line is read.
+    TooLong,
     /// It ends the shell.
     Exit,
     /// A stream failed, which was told. No further line is done.
@@ -51,11 +54,13 @@ enum Ended {
 
 impl Ended {
     /// The status of a program that ends so.
-    fn status(self) -> u8 {
+    fn status(self) -> u8
+        ensures { result ≡ ended_status self }
+    {
         match self {
             Ended::Done | Ended::Exit => DONE,
             Ended::Failed | Ended::Cut | Ended::Broken => FAILED,
-            Ended::Unread => USAGE,
+            Ended::Unread | Ended::TooLong => USAGE,
         }
     }
 
@@ -127,7 +132,12 @@ fn change_folder<S: FlushStore + Drop>(
     opened: &mut Opened<S>,
     alloc: Global,
     path: &str,
-) -> Result<(), Fault> {
+) -> Result<(), Fault>
+    ensures session { opened.new.session ≡ opened.old.session }
+    ensures told { opened.new.told ≡ opened.old.told }
+    ensures folder { MatchResult result (λ done. IsFolderAt (S.state_of opened.old.session.store) opened.old.session.volume opened.old.folder path.now
+        opened.new.folder) (λ fault. opened.new.folder ≡ opened.old.folder) }
+{
     let node = find(&opened.session, alloc, opened.folder, path, true)?;
     if !node.is_folder() {
         return Err(at(alloc, path, Reason::NoFolder));
@@ -187,30 +197,66 @@ fn print_folder<S: FlushStore + Drop>(
     }
 }
 
-/// Does what a word of a shell asks for. What it changed is on the disk then, but where the shell is lazy.
-fn run_shell_word<H: Host, S: FlushStore + Drop>(
+/// Whether a word is one of shells alone, which looks or changes no name and no file.
+fn is_of_shell(word: &Word) -> bool
+    ensures { result ≡ of_shell word.now }
+{
+    matches!(
+        word,
+        Word::ChangeFolder { .. } | Word::Folder | Word::Sync
+    )
+}
+
+/// Does what a word asks for that is no word of shells alone. What it changed is on the disk then, but where the shell is lazy.
+fn run_volume_word<H: Host, S: FlushStore + Drop>(
     host: &H,
     opened: &mut Opened<S>,
     alloc: Global,
-    (word, shell): (&Word, Shell),
+    asked: (&Word, Shell),
     out: &mut impl Write,
-) -> Result<(), Fault> {
-    match word {
-        Word::ChangeFolder { path } => return change_folder(opened, alloc, path),
-        Word::Folder => return print_folder(opened, alloc, out),
-        Word::Sync => return opened.sync(alloc),
-        _ => {}
-    }
+) -> Result<(), Fault>
+    ensures types { S.types_of opened.new.session.store ≡ S.types_of opened.old.session.store }
+    ensures folder { opened.new.folder ≡ opened.old.folder }
+    ensures does { WordThenWritten (S.types_of opened.old.session.store) asked.entry.1.is_lazy opened.old.folder asked.entry.0.now
+        opened.old.told opened.new.told (S.state_of opened.old.session.store) (S.state_of opened.new.session.store)
+        opened.old.session.volume opened.new.session.volume result }
+{
+    let (word, shell) = asked;
     let sources = Sources {
         disk: shell.image,
         has_lines: true,
     };
     let mut none: &[u8] = &[];
     let done = run_word(host, opened, alloc, (word, sources), &mut none, out);
-    if shell.is_lazy || crate::looking::is_looking(word) {
+    if shell.is_lazy || is_looking(word) {
         return done;
     }
     sync_behind(opened, alloc, done)
+}
+
+/// Does what a word of a shell asks for. What it changed is on the disk then, but where the shell is lazy.
+fn run_shell_word<H: Host, S: FlushStore + Drop>(
+    host: &H,
+    opened: &mut Opened<S>,
+    alloc: Global,
+    asked: (&Word, Shell),
+    out: &mut impl Write,
+) -> Result<(), Fault>
+    ensures types { S.types_of opened.new.session.store ≡ S.types_of opened.old.session.store }
+    ensures does { ShellWordDoes (S.types_of opened.old.session.store) asked.entry.1.is_lazy opened.old.folder opened.new.folder asked.entry.0.now
+        opened.old.told opened.new.told (S.state_of opened.old.session.store) (S.state_of opened.new.session.store)
+        opened.old.session.volume opened.new.session.volume result }
+{
+    let word = asked.0;
+    if !is_of_shell(word) {
+        return run_volume_word(host, opened, alloc, asked, out);
+    }
+    match word {
+        Word::ChangeFolder { path } => change_folder(opened, alloc, path),
+        Word::Folder => print_folder(opened, alloc, out),
+        Word::Sync => opened.sync(alloc),
+        _ => Ok(()),
+    }
 }
 
 /// Writes what a word left pending. After a failure of the disk nothing more is written.
@@ -219,7 +265,11 @@ fn sync_behind<S: FlushStore + Drop>(
     alloc: Global,
     done: Result<(), Fault>,
 ) -> Result<(), Fault>
-    ensures written { OnOk result (AllWritten (S.state_of opened.new.session.store).lives) }
+    ensures types { S.types_of opened.new.session.store ≡ S.types_of opened.old.session.store }
+    ensures folder { opened.new.folder ≡ opened.old.folder }
+    ensures told { opened.new.told ≡ opened.old.told }
+    ensures written { IsWritten (S.types_of opened.old.session.store) opened.old.folder done (S.state_of opened.old.session.store)
+        (S.state_of opened.new.session.store) opened.old.session.volume opened.new.session.volume result }
 {
     if opened.is_broken() {
         done?;
@@ -230,22 +280,33 @@ fn sync_behind<S: FlushStore + Drop>(
     synced
 }
 
+/// Tells what a line of a shell left out.
+fn tell_left_out(told: &[Fault], line: (&str, u64), err: &mut impl Write) {
+    let (image, number) = line;
+    for fault in told {
+        let _ = writeln!(err, "xnfs: {image}: line {number}: {fault}");
+    }
+}
+
 /// Tells what a line of a shell left out, and its fault, and answers how it ended.
 fn tell_ended<S: FlushStore + Drop>(
     opened: &mut Opened<S>,
     alloc: Global,
-    (image, number): (&str, u64),
+    line: (&str, u64),
     done: Result<(), Fault>,
     out: &mut impl Write,
     err: &mut impl Write,
-) -> Ended {
+) -> Ended
+    ensures session { opened.new.session ≡ opened.old.session }
+    ensures folder { opened.new.folder ≡ opened.old.folder }
+    ensures ended { ended_status result ≡ 0 → (done ≡ Ok tt) × (length opened.old.told.faults.items ≡ 0) }
+{
+    let (image, number) = line;
     let told = opened.told.take(alloc);
     if !told.is_empty() || done.is_err() {
         let _ = out.flush();
     }
-    for fault in told.iter() {
-        let _ = writeln!(err, "xnfs: {image}: line {number}: {fault}");
-    }
+    tell_left_out(&told, line, err);
     match done {
         Ok(()) if told.is_empty() => Ended::Done,
         Ok(()) => Ended::Failed,
@@ -257,7 +318,9 @@ fn tell_ended<S: FlushStore + Drop>(
 }
 
 /// How a line ends with a fault, which may be that of a disk that is broken from then on.
-fn ended_by(fault: &Fault, is_broken: bool) -> Ended {
+fn ended_by(fault: &Fault, is_broken: bool) -> Ended
+    ensures { ended_status result ≡ 1 }
+{
     match fault {
         _ if is_broken => Ended::Broken,
         Fault::Stream(_) => Ended::Cut,
@@ -270,11 +333,16 @@ fn run_words<H: Host, S: FlushStore + Drop>(
     host: &H,
     opened: &mut Opened<S>,
     alloc: Global,
-    (shell, number): (Shell, u64),
+    asked: (Shell, u64),
     words: &[&str],
     out: &mut impl Write,
     err: &mut impl Write,
-) -> Ended {
+) -> Ended
+    ensures types { S.types_of opened.new.session.store ≡ S.types_of opened.old.session.store }
+    ensures does { ShellLineDoes (S.types_of opened.old.session.store) asked.entry.0.is_lazy (ended_status result) opened.old.folder opened.new.folder
+        (S.state_of opened.old.session.store) (S.state_of opened.new.session.store) opened.old.session.volume opened.new.session.volume }
+{
+    let (shell, number) = asked;
     let line = (shell.image, number);
     let word = match read_shell(alloc, words) {
         Ok(Some(word)) => word,
@@ -293,10 +361,15 @@ fn run_line<H: Host, S: FlushStore + Drop>(
     host: &H,
     opened: &mut Opened<S>,
     alloc: Global,
-    (shell, line): (Shell, Line),
+    asked: (Shell, Line),
     out: &mut impl Write,
     err: &mut impl Write,
-) -> Ended {
+) -> Ended
+    ensures types { S.types_of opened.new.session.store ≡ S.types_of opened.old.session.store }
+    ensures does { ShellLineDoes (S.types_of opened.old.session.store) asked.entry.0.is_lazy (ended_status result) opened.old.folder opened.new.folder
+        (S.state_of opened.old.session.store) (S.state_of opened.new.session.store) opened.old.session.volume opened.new.session.volume }
+{
+    let (shell, line) = asked;
     let (image, number) = (shell.image, line.number);
     let words = match split(alloc, line.text) {
         Ok(Some(words)) => words,
@@ -346,10 +419,15 @@ fn run_bytes<H: Host, S: FlushStore + Drop>(
     host: &H,
     opened: &mut Opened<S>,
     alloc: Global,
-    (shell, number, line): (Shell, u64, &[u8]),
+    asked: (Shell, u64, &[u8]),
     out: &mut impl Write,
     err: &mut impl Write,
-) -> Ended {
+) -> Ended
+    ensures types { S.types_of opened.new.session.store ≡ S.types_of opened.old.session.store }
+    ensures does { ShellLineDoes (S.types_of opened.old.session.store) asked.entry.0.is_lazy (ended_status result) opened.old.folder opened.new.folder
+        (S.state_of opened.old.session.store) (S.state_of opened.new.session.store) opened.old.session.volume opened.new.session.volume }
+{
+    let (shell, number, line) = asked;
     match str::from_utf8(line) {
         Ok(text) => {
             let line = Line { number, text };
@@ -386,38 +464,64 @@ fn tell_too_long((image, number): (&str, u64), err: &mut impl Write) -> Ended {
         err,
         "xnfs: {image}: line {number}: more than {LONGEST} bytes, here the shell ends"
     );
-    Ended::Unread
+    Ended::TooLong
+}
+
+/// Does the next line of a shell, and answers how it ended; nothing at the end of its input. A fault is that of a stream or of the clock, before anything is done.
+fn run_next<H: Host, S: FlushStore + Drop>(
+    outside: (&H, &impl Clock),
+    opened: &mut Opened<S>,
+    alloc: Global,
+    asked: (Shell, u64),
+    input: &mut impl BufRead,
+    out: &mut impl Write,
+    err: &mut impl Write,
+) -> Result<Option<Ended>, LineFault>
+    ensures types { S.types_of opened.new.session.store ≡ S.types_of opened.old.session.store }
+    ensures does { NextLineDoes (S.types_of opened.old.session.store) asked.entry.0.is_lazy opened.old.folder opened.new.folder
+        (S.state_of opened.old.session.store) (S.state_of opened.new.session.store) opened.old.session.volume opened.new.session.volume result }
+{
+    let ((host, clock), (shell, number)) = (outside, asked);
+    prompt(shell.terminal, out)?;
+    match next_line(alloc, input)? {
+        Next::Nothing => {
+            end_prompt(shell.terminal, out)?;
+            Ok(None)
+        }
+        Next::TooLong => Ok(Some(tell_too_long((shell.image, number), err))),
+        Next::Line(line) => {
+            opened.session.set_clock(time_of(clock)?);
+            let line = (shell, number, line.as_slice());
+            Ok(Some(run_bytes(host, opened, alloc, line, out, err)))
+        }
+    }
 }
 
 /// Does the lines of a shell up to the end of its input, to `exit`, to one that is too long, or to a fault of the disk or a stream, and answers the greatest of
 /// their statuses. A fault is that of a stream between two lines.
 pub fn run_shell<H: Host, S: FlushStore + Drop>(
-    (host, clock): (&H, &impl Clock),
+    outside: (&H, &impl Clock),
     opened: &mut Opened<S>,
     alloc: Global,
     shell: Shell,
     input: &mut impl BufRead,
     out: &mut impl Write,
     err: &mut impl Write,
-) -> Result<u8, LineFault> {
+) -> Result<u8, LineFault>
+    ensures types { S.types_of opened.new.session.store ≡ S.types_of opened.old.session.store }
+    ensures does { (status : ℕ) × ShellRuns (S.types_of opened.old.session.store) shell.entry.is_lazy status opened.old.folder opened.new.folder
+        (S.state_of opened.old.session.store) (S.state_of opened.new.session.store) opened.old.session.volume opened.new.session.volume
+        × IfOk result (λ told. told ≡ status) }
+{
     let mut status = DONE;
     for number in 1..u64::MAX {
-        prompt(shell.terminal, out)?;
-        let (ended, is_last) = match next_line(alloc, input)? {
-            Next::Nothing => {
-                end_prompt(shell.terminal, out)?;
-                break;
-            }
-            Next::TooLong => (tell_too_long((shell.image, number), err), true),
-            Next::Line(line) => {
-                opened.session.set_clock(time_of(clock)?);
-                let line = (shell, number, line.as_slice());
-                (run_bytes(host, opened, alloc, line, out, err), false)
-            }
+        let Some(ended) = run_next(outside, opened, alloc, (shell, number), input, out, err)?
+        else {
+            break;
         };
         let _ = err.flush();
         status = status.max(ended.status());
-        if is_last || !ended.goes_on() {
+        if !ended.goes_on() {
             break;
         }
         out.flush()?;

@@ -1,5 +1,8 @@
 // A word on an open volume of trees.
 
+ghost use Rattle.std.specs.Prelude.{◌≡◌};
+ghost use Rattle.xnfs_line.specs.Words.{RunsWord};
+
 use crate::changing::{Sources, change};
 use crate::looking::{Looked, is_looking, look};
 use flush_store::FlushStore;
@@ -36,13 +39,20 @@ pub fn run_word<H: Host, S: FlushStore + Drop>(
     host: &H,
     opened: &mut Opened<S>,
     alloc: Global,
-    (word, sources): (&Word, Sources),
+    asked: (&Word, Sources),
     input: &mut impl Read,
     out: &mut impl Write,
-) -> Result<(), Fault> {
+) -> Result<(), Fault>
+    ensures types { S.types_of opened.new.session.store ≡ S.types_of opened.old.session.store }
+    ensures folder { opened.new.folder ≡ opened.old.folder }
+    ensures does { RunsWord (S.types_of opened.old.session.store) opened.old.folder asked.entry.0.now
+        opened.old.told opened.new.told (S.state_of opened.old.session.store) (S.state_of opened.new.session.store)
+        opened.old.session.volume opened.new.session.volume result }
+{
+    let (word, sources) = asked;
     if is_looking(word) || matches!(word, Word::Check { .. }) {
-        let asked = (word, opened.folder);
-        return look_at(host, &opened.session, alloc, &mut opened.told, asked, out);
+        let looked = (word, opened.folder);
+        return look_at(host, &opened.session, alloc, &mut opened.told, looked, out);
     }
     change(host, opened, alloc, (word, sources), input)
 }

@@ -1,0 +1,3 @@
+pub mod Words
+pub mod Shells
+pub mod Lines
