@@ -116,10 +116,12 @@ fn step_of<S: FlushStore + Drop>(
 }
 
 impl<S: FlushStore + Drop> View for FirstVolume<S> {
-    // nothing is said of where names and paths lead there
+    // nothing is said of the names of folders there, and of where names and paths lead
     ghost leads = { λ s folder path last result. ⊤ };
 
     ghost names_number = { λ s folder name result. ⊤ };
+
+    ghost lists = { λ s folder result. ⊤ };
 
     ghost shows = { λ s number result. IfOk result (λ node. node.number ≡ number) };
 

@@ -1,1 +1,3 @@
 mod Answered
+pub mod NamesRead
+pub mod WalkSteps

@@ -5,3 +5,5 @@ pub mod Answers
 pub mod Telling
 pub mod Trees
 pub mod Faults
+pub mod Walks
+pub mod Listing

@@ -4,12 +4,16 @@
 --     IsPlaceIn      the folder and the name of a path
 --     IsThereIn      what a name in a folder leads to, if there is such a name
 --     GoesIn         the folder and the name that something gets which goes to a path
+--     ComesIn        what a walk comes to, where some outcomes are passed over
 use Rattle.std.specs.Prelude.{◌≡◌, ℕ, Bool, List, Option}
 use Rattle.xn_model.specs.Lives.{StoreState}
 use Rattle.treefs.specs.declared.volume.Volume.{Volume}
+use Rattle.tree_lines.specs.Listing.{ListsFolder}
 use Rattle.tree_lines.specs.Looks.{FindsPath, node_seen, number_seen}
 use Rattle.tree_lines.specs.Places.{GoesTo, IsFoundNode, IsPlace, IsThere, LeadsNowhere}
+use Rattle.tree_lines.specs.Walks.{ComesTo, Outcome, Progress}
 use Rattle.tree_lines.specs.declared.node.Node.{Node}
+use Rattle.tree_lines.specs.declared.told.Told.{Told}
 
 -- last: whether a symbolic link at the end is followed
 abbrev pub IsNodeIn : StoreState → Volume → ℕ → List ℕ → Bool → Node → Type 0
@@ -28,3 +32,6 @@ IsThereIn state volume = IsThere (λ folder name result. result ≡ number_seen 
 -- several: whether several things go there; own: the name that it has
 abbrev pub GoesIn : StoreState → Volume → ℕ → List ℕ → Bool → List ℕ → ℕ → List ℕ → Bool → Type 0
 GoesIn state volume = GoesTo (FindsPath state volume) (λ number result. result ≡ node_seen state volume number)
+
+abbrev pub ComesIn : StoreState → Volume → (Outcome → Type 0) → Progress → Told → Progress → Told → Outcome → Type 0
+ComesIn state volume = ComesTo (ListsFolder state volume) (λ number result. result ≡ node_seen state volume number)

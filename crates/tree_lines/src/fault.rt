@@ -1,6 +1,8 @@
 // What is told where a line can't be done.
 
+ghost use Rattle.std.specs.Prelude.{◌≡◌};
 ghost use Rattle.tree_lines.specs.Faults.{TellsReason};
+ghost use Rattle.tree_lines.specs.declared.fault.Fault.TheVariants.{NoMemory};
 
 use crate::reason::Reason;
 use crate::showing::shown;
@@ -51,12 +53,16 @@ pub enum Fault {
 }
 
 impl From<AllocError> for Fault {
+    ghost from_gives = { λ error fault. fault ≡ NoMemory };
+
     fn from(_error: AllocError) -> Fault {
         Fault::NoMemory
     }
 }
 
 impl<T: Drop> From<AllocFailed<T>> for Fault {
+    ghost from_gives = { λ error fault. fault ≡ NoMemory };
+
     fn from(_error: AllocFailed<T>) -> Fault {
         Fault::NoMemory
     }

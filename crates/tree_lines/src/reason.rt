@@ -1,6 +1,7 @@
 // Why something can't be done at a path.
 
 ghost use Rattle.std.specs.Prelude.{◌≡◌};
+ghost use Rattle.tree_lines.specs.declared.reason.Reason.TheVariants.{NoMemory};
 ghost use Rattle.tree_lines.specs.Reasons.{naming_reason_of, path_reason_of, reason_of, refusal_reason_of};
 
 use std::alloc::{AllocError, AllocFailed};
@@ -74,12 +75,16 @@ pub enum Reason {
 }
 
 impl From<AllocError> for Reason {
+    ghost from_gives = { λ error reason. reason ≡ NoMemory };
+
     fn from(_error: AllocError) -> Reason {
         Reason::NoMemory
     }
 }
 
 impl<T: Drop> From<AllocFailed<T>> for Reason {
+    ghost from_gives = { λ error reason. reason ≡ NoMemory };
+
     fn from(_error: AllocFailed<T>) -> Reason {
         Reason::NoMemory
     }

@@ -1,7 +1,8 @@
 // Faults that end nothing, and are told at the end of a line.
 
-ghost use Rattle.std.specs.Prelude.{◌≡◌, ◌<◌, ◌==◌, IfOk, length};
-ghost use Rattle.tree_lines.specs.Telling.{GoesOn, LeavesOut};
+ghost use Rattle.std.specs.Prelude.{◌≡◌, ◌<◌, ◌==◌, ◌↔◌, IfErr, IfOk, IsTrue, length};
+ghost use Rattle.tree_lines.specs.Telling.{EndsLine, GoesOn, Tells, count_of};
+ghost use Rattle.tree_lines.specs.declared.fault.Fault.TheVariants.{NoMemory};
 
 use crate::fault::Fault;
 use std::alloc::{AllocError, Global};
@@ -29,7 +30,7 @@ impl Told {
 
     /// Keeps a fault that ends nothing. `Err` comes only for want of memory.
     pub fn tell(&mut self, fault: Fault) -> Result<(), AllocError>
-        ensures { IfOk result (λ done. LeavesOut self.old self.new 1) }
+        ensures { IfOk result (λ done. Tells self.old self.new fault) }
     {
         if self.faults.len() < MOST_TOLD {
             self.faults.push(fault)?;
@@ -56,7 +57,9 @@ impl Told {
     }
 
     /// How many faults there are so far.
-    pub fn count(&self) -> u64 {
+    pub fn count(&self) -> u64
+        ensures { result ≡ count_of self.now }
+    {
         self.more.saturating_add(self.faults.len() as u64)
     }
 
@@ -82,7 +85,9 @@ impl Told {
 }
 
 /// Whether nothing more of a line can be done after a fault.
-fn ends_line(fault: &Fault) -> bool {
+fn ends_line(fault: &Fault) -> bool
+    ensures { IsTrue result ↔ EndsLine fault.now }
+{
     match fault {
         Fault::NoMemory | Fault::Stream(_) | Fault::Flush(_) | Fault::Disk(_) => true,
         _ => false,

@@ -1,7 +1,9 @@
 // An open volume of trees is looked at.
 
-ghost use Rattle.std.specs.Prelude.{◌≡◌};
+ghost use Rattle.std.specs.Prelude.{◌≡◌, ◌++◌, OnOk, map};
+ghost use Rattle.tree_lines.specs.Listing.{ListsFolder, ReadsFolder, live_names};
 ghost use Rattle.tree_lines.specs.Looks.{FindsPath, node_seen, number_seen};
+ghost use Rattle.tree_lines.specs.Walks.{entry_of, names_of};
 
 use crate::counting::block_count;
 use crate::node::{Named, Node, Stretch, Usage};
@@ -23,7 +25,9 @@ use treefs_session::Session;
 const TARGET_LEN: u64 = 4_096;
 
 /// Adds the names of a bucket.
-fn push_names(alloc: Global, names: &mut Vec<Named>, bucket: &Bucket) -> Result<(), AllocError> {
+fn push_names(alloc: Global, names: &mut Vec<Named>, bucket: &Bucket) -> Result<(), AllocError>
+    ensures { OnOk result (map entry_of names.new.items ≡ map entry_of names.old.items ++ live_names bucket.now.bytes.now) }
+{
     for record in Records::new(bucket.bytes) {
         if record.number != 0 {
             names.push(Named {
@@ -35,10 +39,38 @@ fn push_names(alloc: Global, names: &mut Vec<Named>, bucket: &Bucket) -> Result<
     Ok(())
 }
 
+/// The names of a folder, in the order of its buckets.
+fn read_names<S: FlushStore + Drop>(
+    session: &Session<S>,
+    alloc: Global,
+    folder: u32,
+) -> Result<Vec<Named>, Reason>
+    ensures { ReadsFolder (S.state_of session.now.store) session.now.volume folder (names_of result) }
+{
+    let mut names = Vec::new(alloc);
+    let mut from = 0u32;
+    for _bucket in 0..LEAVES + 1 {
+        match session
+            .volume()
+            .read_directory(session.store(), folder, from)
+        {
+            Ok(Some(bucket)) => {
+                push_names(alloc, &mut names, &bucket)?;
+                from = bucket.number.saturating_add(1);
+            }
+            Ok(None) => return Ok(names),
+            Err(fault) => return Err(reason_of(fault, 0)),
+        }
+    }
+    Ok(names)
+}
+
 impl<S: FlushStore + Drop> View for Session<S> {
     ghost leads = { λ s folder path last result. FindsPath (S.state_of s.store) s.volume folder path last result };
 
     ghost names_number = { λ s folder name result. result ≡ number_seen (S.state_of s.store) s.volume folder name };
+
+    ghost lists = { λ s folder result. ListsFolder (S.state_of s.store) s.volume folder result };
 
     ghost shows = { λ s number result. result ≡ node_seen (S.state_of s.store) s.volume number };
 
@@ -67,20 +99,13 @@ impl<S: FlushStore + Drop> View for Session<S> {
     }
 
     fn names(&self, alloc: Global, folder: u32) -> Result<Vec<Named>, Reason> {
-        let mut names = Vec::new(alloc);
-        let mut from = 0u32;
-        for _bucket in 0..LEAVES {
-            match self.volume().read_directory(self.store(), folder, from) {
-                Ok(Some(bucket)) => {
-                    push_names(alloc, &mut names, &bucket)?;
-                    from = bucket.number.saturating_add(1);
-                }
-                Ok(None) => break,
-                Err(fault) => return Err(reason_of(fault, 0)),
+        match read_names(self, alloc, folder) {
+            Ok(mut names) => {
+                names.sort_unstable();
+                Ok(names)
             }
+            Err(reason) => Err(reason),
         }
-        names.sort_unstable();
-        Ok(names)
     }
 
     fn read(&self, number: u32, at: u64, bytes: &mut [u8]) -> Result<usize, Reason> {

@@ -1,6 +1,7 @@
 // What words ask of a volume that they look at.
 
 ghost use Rattle.std.specs.Prelude.{ℕ, Bool, List, Result};
+ghost use Rattle.tree_lines.specs.Walks.{names_of};
 ghost use Rattle.tree_lines.specs.declared.node.Node.{Node};
 ghost use Rattle.tree_lines.specs.declared.reason.Reason.{Reason};
 
@@ -19,6 +20,9 @@ pub trait View {
     /// What `node` may answer, of a number.
     ghost shows: { Self → ℕ → Result Node Reason → Type 0 };
 
+    /// What `names` may answer, of a folder: its names with their numbers.
+    ghost lists: { Self → ℕ → Result (List (List ℕ × ℕ)) Reason → Type 0 };
+
     /// What stands at a number. Reasons are `Missing`, and those of the store.
     fn node(&self, number: u32) -> Result<Node, Reason>
         ensures { shows self.now number result };
@@ -28,7 +32,8 @@ pub trait View {
         ensures { names_number self.now folder name.now result };
 
     /// The names in a folder, rising by their bytes. Reasons are `Missing`, `NoFolder`, `NoMemory`.
-    fn names(&self, alloc: Global, folder: u32) -> Result<Vec<Named>, Reason>;
+    fn names(&self, alloc: Global, folder: u32) -> Result<Vec<Named>, Reason>
+        ensures { lists self.now folder (names_of result) };
 
     /// Reads a file or a symbolic link from a byte on, up to its size, and answers how many bytes there were. Holes are zeros. Reasons are `Missing`,
     /// `Folder`.

@@ -1,5 +1,11 @@
 // All that stands below a folder, name by name.
 
+ghost use Rattle.std.specs.Prelude.{◌≡◌, ◌∷◌, ◌++◌, IfErr, IfOk, None, OnOk, Some, [], length, map, reverse};
+ghost use Rattle.std.specs.Option.{option_map};
+ghost use Rattle.tree_lines.specs.Walks.{ComesTo, IsUnmet, IsUnseen, LeavesInner, MeetsName, NextName, PassesOver, Reads, Sees};
+ghost use Rattle.tree_lines.specs.Walks.{begun, entry_of, gone_into, met_of, outcome_of, progress, step_outcome, with_name, without};
+ghost use Rattle.tree_lines.specs.declared.fault.Fault.TheVariants.{NoMemory};
+
 use crate::fault::{Fault, at_bytes};
 use crate::node::{Named, Node};
 use crate::reason::Reason;
@@ -61,7 +67,10 @@ fn waiting_of<V: View>(
     told: &mut Told,
     path: &[u8],
     folder: u32,
-) -> Result<Vec<Named>, Fault> {
+) -> Result<Vec<Named>, Fault>
+    ensures names { IfOk result (λ names. Reads (V.lists view.now) folder told.old told.new (map entry_of (reverse names.items))) }
+    ensures err { IfErr result (λ fault. fault ≡ NoMemory) }
+{
     match view.names(alloc, folder) {
         Ok(mut names) => {
             names.reverse();
@@ -75,7 +84,9 @@ fn waiting_of<V: View>(
 }
 
 /// Adds a name behind a path.
-fn push_name(path: &mut Vec<u8>, name: &[u8]) -> Result<(), AllocError> {
+fn push_name(path: &mut Vec<u8>, name: &[u8]) -> Result<(), AllocError>
+    ensures { OnOk result (path.new.items ≡ with_name path.old.items name.now) }
+{
     if !path.is_empty() && path.last() != Some(&b'/') {
         path.push(b'/')?;
     }
@@ -84,7 +95,9 @@ fn push_name(path: &mut Vec<u8>, name: &[u8]) -> Result<(), AllocError> {
 
 impl Walk {
     /// A walk below the folder of a number, by whose path all is told.
-    pub fn below(alloc: Global, path: &[u8], folder: u32) -> Result<Walk, AllocError> {
+    pub fn below(alloc: Global, path: &[u8], folder: u32) -> Result<Walk, AllocError>
+        ensures { IfOk result (λ walk. progress walk ≡ begun path.now folder) }
+    {
         let frame = Frame {
             folder,
             step: None,
@@ -102,18 +115,24 @@ impl Walk {
     }
 
     /// Leaves a folder out, by its number, wherever it is met: it is told as one that is met a second time.
-    pub fn leave_out(&mut self, folder: u32) -> Result<(), AllocError> {
+    pub fn leave_out(&mut self, folder: u32) -> Result<(), AllocError>
+        ensures { OnOk result (progress self.new ≡ without (progress self.old) folder) }
+    {
         let _is_new = self.seen.insert(folder)?;
         Ok(())
     }
 
     /// The path of what was met or left last.
-    pub fn path(&self) -> &[u8] {
+    pub fn path(&self) -> &[u8]
+        ensures { result.now ≡ (progress self.now).path }
+    {
         &self.path
     }
 
     /// Leaves out what is in the folder that was met last.
-    pub fn pass_over(&mut self) {
+    pub fn pass_over(&mut self)
+        ensures { PassesOver (progress self.old) (progress self.new) }
+    {
         if let Some(frame) = self.frames.last_mut() {
             frame.is_read = true;
             frame.waiting.clear();
@@ -121,7 +140,12 @@ impl Walk {
     }
 
     /// Goes into a folder that was just met.
-    fn enter(&mut self, alloc: Global, step: &Step) -> Result<(), AllocError> {
+    fn enter(&mut self, alloc: Global, step: &Step) -> Result<(), AllocError>
+        ensures { OnOk result (progress self.new ≡ record (progress self.old) {
+          folders =
+              (progress self.old).folders ++ gone_into (length self.old.path.items) (met_of step.now) ∷ [];
+        }) }
+    {
         let (depth, folder) = (step.depth, step.folder);
         let name = Vec::from_slice(alloc, &step.name)?;
         let node = step.node;
@@ -140,6 +164,22 @@ impl Walk {
         Ok(())
     }
 
+    /// What stands at a number, as a walk takes it: a folder that was seen before is left out.
+    fn look<V: View>(&mut self, view: &V, number: u32) -> Result<Result<Node, Reason>, AllocError>
+        ensures frames { self.new.frames ≡ self.old.frames }
+        ensures path { self.new.path ≡ self.old.path }
+        ensures sees { IfOk result (λ node. Sees (V.shows view.now) number self.old.seen.keys self.new.seen.keys node) }
+    {
+        let node = match view.node(number) {
+            Ok(node) => node,
+            Err(reason) => return Ok(Err(reason)),
+        };
+        if node.is_folder() && !self.seen.insert(node.number)? {
+            return Ok(Err(Reason::TwoNames));
+        }
+        Ok(Ok(node))
+    }
+
     /// Meets a name of a folder; `None` where nothing is to be seen there, which is told.
     fn meet<V: View>(
         &mut self,
@@ -148,16 +188,14 @@ impl Walk {
         told: &mut Told,
         folder: u32,
         named: Named,
-    ) -> Result<Option<Step>, Fault> {
+    ) -> Result<Option<Step>, Fault>
+        ensures meets { IfOk result (λ step. MeetsName (V.shows view.now) (progress self.old) told.old (progress self.new) told.new folder
+            (entry_of named) (option_map met_of step)) }
+        ensures err { IfErr result (λ fault. fault ≡ NoMemory) }
+    {
         let depth = self.frames.len().saturating_sub(1);
         push_name(&mut self.path, &named.name)?;
-        let node = match view.node(named.number) {
-            Ok(node) if node.is_folder() && !self.seen.insert(node.number)? => {
-                Err(Reason::TwoNames)
-            }
-            seen => seen,
-        };
-        match node {
+        match self.look(view, named.number)? {
             Ok(node) => {
                 let step = Step {
                     depth,
@@ -183,7 +221,11 @@ impl Walk {
         view: &V,
         alloc: Global,
         told: &mut Told,
-    ) -> Result<Option<(u32, Named)>, Fault> {
+    ) -> Result<Option<(u32, Named)>, Fault>
+        ensures next { IfOk result (λ next. NextName (V.lists view.now) (progress self.old) told.old (progress self.new) told.new
+            (option_map (λ x. (x.0, entry_of x.1)) next)) }
+        ensures err { IfErr result (λ fault. fault ≡ NoMemory) }
+    {
         let Some(frame) = self.frames.last_mut() else {
             return Ok(None);
         };
@@ -204,7 +246,11 @@ impl Walk {
         view: &V,
         alloc: Global,
         told: &mut Told,
-    ) -> Result<Option<Visit>, Fault> {
+    ) -> Result<Option<Visit>, Fault>
+        ensures comes { IfOk result (λ visit. ComesTo (V.lists view.now) (V.shows view.now) IsUnseen (progress self.old) told.old (progress self.new) told.new
+            (outcome_of visit)) }
+        ensures err { IfErr result (λ fault. fault ≡ NoMemory) }
+    {
         for _name in 0..u64::MAX {
             let Some((folder, named)) = self.next_name(view, alloc, told)? else {
                 return Ok(self.leave());
@@ -222,7 +268,11 @@ impl Walk {
         view: &V,
         alloc: Global,
         told: &mut Told,
-    ) -> Result<Option<Step>, Fault> {
+    ) -> Result<Option<Step>, Fault>
+        ensures comes { IfOk result (λ step. ComesTo (V.lists view.now) (V.shows view.now) IsUnmet (progress self.old) told.old (progress self.new) told.new
+            (step_outcome step)) }
+        ensures err { IfErr result (λ fault. fault ≡ NoMemory) }
+    {
         for _visit in 0..u64::MAX {
             match self.next(view, alloc, told)? {
                 Some(Visit::Met(step)) => return Ok(Some(step)),
@@ -234,7 +284,9 @@ impl Walk {
     }
 
     /// Leaves the folder in which the walk is.
-    fn leave(&mut self) -> Option<Visit> {
+    fn leave(&mut self) -> Option<Visit>
+        ensures { LeavesInner (progress self.old) (progress self.new) (outcome_of result) }
+    {
         let Frame {
             folder: _,
             step,
