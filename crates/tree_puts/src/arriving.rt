@@ -1,6 +1,11 @@
 // One file or symbolic link of the system that is brought in.
 
-ghost use Rattle.std.specs.Prelude.{◌<◌};
+ghost use Rattle.std.specs.Prelude.{◌≡◌, ◌<◌, ◌≤◌, OnErr, OnOk, length, take};
+ghost use Rattle.tree_puts.specs.Actions.{OrElse, Performs};
+ghost use Rattle.tree_puts.specs.Linked.{Forgets, IsUnnoted, Notes, number_kept};
+ghost use Rattle.tree_puts.specs.Arriving.{BeginsFile, Finishes, HasRights, IsGivenUp, PutsArrived, PutsFile, PutsLink, PutsLong, PutsWhole, SetsAll};
+ghost use Rattle.tree_puts.specs.Arriving.{SetsTime, WritesPieces, WritesWhole};
+ghost use Rattle.tree_puts.specs.Holes.{is_sparse};
 
 use crate::pieces::{Incoming, read_piece};
 use crate::sparse::{is_sparse, write_parts};
@@ -17,9 +22,8 @@ use treefs_format::sizes::{GREATEST_SIZE, LEAF_LEN};
 use treefs_session::{Begin, Commit, Put, SetAttributes, SetMtime, Target};
 
 /// What a line that brings files in keeps.
-pub struct Arriving<'a, H: Host, S: FlushStore + Drop> {
+pub struct Arriving<'a, H: Host> {
     pub host: &'a H,
-    pub volume: &'a mut Opened<S>,
     pub alloc: Global,
     pub progress: Progress,
     /// The file of the system that is the disk itself.
@@ -30,11 +34,10 @@ pub struct Arriving<'a, H: Host, S: FlushStore + Drop> {
     sources: BTreeMap<u32, (u64, u64)>,
 }
 
-impl<'a, H: Host, S: FlushStore + Drop> Drop for Arriving<'a, H, S> {
+impl<'a, H: Host> Drop for Arriving<'a, H> {
     fn drop(self) {
         let Arriving {
             host: _,
-            volume: _,
             alloc: _,
             progress: _,
             disk: _,
@@ -54,17 +57,15 @@ pub struct Goods<'g> {
     pub attributes: &'g HostAttributes,
 }
 
-impl<'a, H: Host, S: FlushStore + Drop> Arriving<'a, H, S> {
+impl<'a, H: Host> Arriving<'a, H> {
     /// Nothing is brought in yet.
     pub fn begin(
         host: &'a H,
-        volume: &'a mut Opened<S>,
         alloc: Global,
         disk: Option<HostAttributes>,
-    ) -> Arriving<'a, H, S> {
+    ) -> Arriving<'a, H> {
         Arriving {
             host,
-            volume,
             alloc,
             progress: Progress::begin(host),
             disk,
@@ -77,7 +78,6 @@ impl<'a, H: Host, S: FlushStore + Drop> Arriving<'a, H, S> {
     pub fn end(self) {
         let Arriving {
             host,
-            volume: _,
             alloc: _,
             progress,
             disk: _,
@@ -88,12 +88,17 @@ impl<'a, H: Host, S: FlushStore + Drop> Arriving<'a, H, S> {
     }
 
     /// The number under which a file of the system was put that has several names, if it was.
-    pub fn number_of(&self, told: &HostAttributes) -> Option<u32> {
+    pub fn number_of(&self, told: &HostAttributes) -> Option<u32>
+        ensures { result ≡ number_kept self.now.linked told.now }
+    {
         self.linked.get(&(told.device, told.inode)).copied()
     }
 
     /// Keeps the number under which a file of the system was put, to link it where another of its names is met.
-    pub fn note(&mut self, told: &HostAttributes, number: u32) -> Result<(), AllocError> {
+    pub fn note(&mut self, told: &HostAttributes, number: u32) -> Result<(), AllocError>
+        ensures ok { OnOk result (Notes told.now number self.old.linked self.new.linked self.old.sources self.new.sources) }
+        ensures err { OnErr result (IsUnnoted told.now number self.old.linked self.new.linked self.old.sources self.new.sources) }
+    {
         if told.links > 1 {
             let source = (told.device, told.inode);
             let _before = self.linked.insert(source, number)?;
@@ -103,11 +108,14 @@ impl<'a, H: Host, S: FlushStore + Drop> Arriving<'a, H, S> {
     }
 
     /// Forgets what has the name of a place, where something else takes that: it may have no other, so that it can't be linked.
-    pub fn forget(&mut self, place: Place) {
+    pub fn forget<S: FlushStore + Drop>(&mut self, volume: &Opened<S>, place: Place)
+        ensures { Forgets (S.state_of volume.now.session.store) volume.now.session.volume place.entry.folder place.entry.name.now
+            self.old.linked self.new.linked self.old.sources self.new.sources }
+    {
         if self.linked.is_empty() {
             return;
         }
-        if let Ok(Some(node)) = there(&self.volume.session, place)
+        if let Ok(Some(node)) = there(&volume.session, place)
             && let Some(source) = self.sources.remove(&node.number)
         {
             let _number = self.linked.remove(&source);
@@ -115,30 +123,53 @@ impl<'a, H: Host, S: FlushStore + Drop> Arriving<'a, H, S> {
     }
 
     /// What a new inode gets of what the system tells of a file.
-    pub fn new_attributes(&self, told: &HostAttributes) -> Attributes
-        ensures { result.permissions < 4096 }
+    pub fn new_attributes<S: FlushStore + Drop>(
+        &self,
+        volume: &Opened<S>,
+        told: &HostAttributes,
+    ) -> Attributes
+        ensures range { result.permissions < 4096 }
+        ensures rights { HasRights result told.now }
     {
         Attributes {
             permissions: told.permissions,
             uid: told.uid,
             gid: told.gid,
-            generation: self.volume.generation(),
+            generation: volume.generation(),
         }
     }
 
     /// Sets the time of what was put.
-    pub fn set_time(&mut self, path: &[u8], number: u32, mtime: i64) -> Result<(), Fault> {
-        self.volume
-            .make(self.alloc, path, &SetMtime { number, mtime })
+    pub fn set_time<S: FlushStore + Drop>(
+        &self,
+        volume: &mut Opened<S>,
+        path: &[u8],
+        number: u32,
+        mtime: i64,
+    ) -> Result<(), Fault>
+        ensures types { S.types_of volume.new.session.store ≡ S.types_of volume.old.session.store }
+        ensures folder { volume.new.folder ≡ volume.old.folder }
+        ensures told { volume.new.told ≡ volume.old.told }
+        ensures does { Performs (S.types_of volume.old.session.store) volume.old.folder (SetsTime number mtime result)
+            (S.state_of volume.old.session.store) (S.state_of volume.new.session.store) volume.old.session.volume volume.new.session.volume }
+    {
+        volume.make(self.alloc, path, &SetMtime { number, mtime })
     }
 
     /// Sets all that the system tells of a folder that was there.
-    pub fn set_all(
-        &mut self,
+    pub fn set_all<S: FlushStore + Drop>(
+        &self,
+        volume: &mut Opened<S>,
         path: &[u8],
         number: u32,
         told: &HostAttributes,
-    ) -> Result<(), Fault> {
+    ) -> Result<(), Fault>
+        ensures types { S.types_of volume.new.session.store ≡ S.types_of volume.old.session.store }
+        ensures folder { volume.new.folder ≡ volume.old.folder }
+        ensures told { volume.new.told ≡ volume.old.told }
+        ensures does { Performs (S.types_of volume.old.session.store) volume.old.folder (SetsAll number told.now result)
+            (S.state_of volume.old.session.store) (S.state_of volume.new.session.store) volume.old.session.volume volume.new.session.volume }
+    {
         let settings = Settings {
             permissions: Some(told.permissions),
             owner: Some(Owner {
@@ -147,17 +178,22 @@ impl<'a, H: Host, S: FlushStore + Drop> Arriving<'a, H, S> {
             }),
             mtime: Some(told.modified),
         };
-        self.volume
-            .make(self.alloc, path, &SetAttributes { number, settings })
+        volume.make(self.alloc, path, &SetAttributes { number, settings })
     }
 
     /// That a disk may have so many bytes more: no file is longer than the greatest, and one that has fewer blocks than they take has no space
     /// for them.
-    pub fn want_space(&self, goods: Goods) -> Result<(), Fault> {
+    pub fn want_space<S: FlushStore + Drop>(
+        &self,
+        volume: &Opened<S>,
+        goods: Goods,
+    ) -> Result<(), Fault>
+        ensures { OnOk result (goods.entry.attributes.now.size ≤ GREATEST_SIZE) }
+    {
         if goods.attributes.size > GREATEST_SIZE {
             return Err(at_bytes(self.alloc, goods.path, Reason::FileTooLarge));
         }
-        let usage = tree_lines::View::usage(&self.volume.session);
+        let usage = tree_lines::View::usage(&volume.session);
         let size = goods.attributes.size.min(goods.attributes.held);
         if size / LEAF_LEN > u64::from(usage.blocks) {
             let free = usage.free_blocks;
@@ -167,8 +203,20 @@ impl<'a, H: Host, S: FlushStore + Drop> Arriving<'a, H, S> {
     }
 
     /// Puts a whole file or symbolic link in the place of what has the name, and answers its number.
-    fn put_whole(&mut self, goods: Goods, kind: Kind, bytes: &[u8]) -> Result<u32, Fault> {
-        let attributes = self.new_attributes(goods.attributes);
+    fn put_whole<S: FlushStore + Drop>(
+        &self,
+        volume: &mut Opened<S>,
+        goods: Goods,
+        kind: Kind,
+        bytes: &[u8],
+    ) -> Result<u32, Fault>
+        ensures types { S.types_of volume.new.session.store ≡ S.types_of volume.old.session.store }
+        ensures folder { volume.new.folder ≡ volume.old.folder }
+        ensures told { volume.new.told ≡ volume.old.told }
+        ensures does { Performs (S.types_of volume.old.session.store) volume.old.folder (PutsWhole goods.entry kind bytes.now result)
+            (S.state_of volume.old.session.store) (S.state_of volume.new.session.store) volume.old.session.volume volume.new.session.volume }
+    {
+        let attributes = self.new_attributes(volume, goods.attributes);
         let put = Put {
             directory: goods.place.folder,
             name: goods.place.name,
@@ -177,25 +225,32 @@ impl<'a, H: Host, S: FlushStore + Drop> Arriving<'a, H, S> {
             bytes,
             replace: true,
         };
-        self.volume.put(self.alloc, goods.path, &put)
+        volume.put(self.alloc, goods.path, &put)
     }
 
     /// Writes pieces behind the first bytes of an inode that was begun, the first of them given, up to the last.
-    fn write_rest<I: Incoming<H>>(
+    fn write_rest<S: FlushStore + Drop, I: Incoming<H>>(
         &mut self,
+        volume: &mut Opened<S>,
         goods: Goods,
         block: u32,
         incoming: &mut I,
         piece: &mut [u8],
         first: usize,
-    ) -> Result<(), Fault> {
+    ) -> Result<(), Fault>
+        ensures types { S.types_of volume.new.session.store ≡ S.types_of volume.old.session.store }
+        ensures folder { volume.new.folder ≡ volume.old.folder }
+        ensures told { volume.new.told ≡ volume.old.told }
+        ensures does { 384 ≤ length piece.old → first ≤ length piece.old →
+            Performs (S.types_of volume.old.session.store) volume.old.folder (WritesWhole block (length piece.old) (take first piece.old) result)
+            (S.state_of volume.old.session.store) (S.state_of volume.new.session.store) volume.old.session.volume volume.new.session.volume }
+    {
         let alloc = self.alloc;
         let (mut from, mut to) = (CONTENT_LEN, first);
         let mut at = CONTENT_LEN as u64;
-        for _ in 0..u64::MAX {
+        for _turn in 0..u64::MAX {
             let bytes = piece.get(from..to).unwrap_or(&[]);
-            self.volume
-                .write_all(alloc, goods.path, Target::Begun(block, at), bytes)?;
+            volume.write_all(alloc, goods.path, Target::Begun(block, at), bytes)?;
             self.progress.add_bytes(self.host, alloc, bytes.len());
             if to < piece.len() {
                 break;
@@ -210,85 +265,200 @@ impl<'a, H: Host, S: FlushStore + Drop> Arriving<'a, H, S> {
         Ok(())
     }
 
-    /// Writes all bytes of an inode that was begun with the first ones, and gives it its name.
-    fn finish<I: Incoming<H>>(
+    /// Writes all bytes of an inode that was begun with the first ones: of a file with holes that are worth it not those of its holes.
+    fn write_pieces<S: FlushStore + Drop, I: Incoming<H>>(
         &mut self,
+        volume: &mut Opened<S>,
         goods: Goods,
         block: u32,
         incoming: &mut I,
         piece: &mut [u8],
         first: usize,
-    ) -> Result<u32, Fault> {
+    ) -> Result<(), Fault>
+        ensures types { S.types_of volume.new.session.store ≡ S.types_of volume.old.session.store }
+        ensures folder { volume.new.folder ≡ volume.old.folder }
+        ensures told { volume.new.told ≡ volume.old.told }
+        ensures does { 384 ≤ length piece.old → first ≤ length piece.old →
+            Performs (S.types_of volume.old.session.store) volume.old.folder (WritesPieces (is_sparse goods.entry.attributes.now) block
+            (length piece.old) (take first piece.old) result)
+            (S.state_of volume.old.session.store) (S.state_of volume.new.session.store) volume.old.session.volume volume.new.session.volume }
+    {
         if is_sparse(goods.attributes) {
-            write_parts(self, goods, block, incoming, piece, first)?;
-        } else {
-            self.write_rest(goods, block, incoming, piece, first)?;
+            return write_parts(self, volume, goods, block, incoming, piece, first);
         }
+        self.write_rest(volume, goods, block, incoming, piece, first)
+    }
+
+    /// Writes all bytes of an inode that was begun with the first ones, and gives it its name.
+    fn finish<S: FlushStore + Drop, I: Incoming<H>>(
+        &mut self,
+        volume: &mut Opened<S>,
+        goods: Goods,
+        block: u32,
+        incoming: &mut I,
+        piece: &mut [u8],
+        first: usize,
+    ) -> Result<u32, Fault>
+        ensures types { S.types_of volume.new.session.store ≡ S.types_of volume.old.session.store }
+        ensures folder { volume.new.folder ≡ volume.old.folder }
+        ensures told { volume.new.told ≡ volume.old.told }
+        ensures does { 384 ≤ length piece.old → first ≤ length piece.old →
+            Performs (S.types_of volume.old.session.store) volume.old.folder (Finishes goods.entry block (length piece.old) (take first piece.old) result)
+            (S.state_of volume.old.session.store) (S.state_of volume.new.session.store) volume.old.session.volume volume.new.session.volume }
+    {
+        self.write_pieces(volume, goods, block, incoming, piece, first)?;
         let commit = Commit {
             block,
             directory: goods.place.folder,
             name: goods.place.name,
             replace: true,
         };
-        self.volume.make_name(self.alloc, goods.path, &commit)
+        volume.make_name(self.alloc, goods.path, &commit)
     }
 
-    /// Puts a file of which the first piece was read, and that may have more. Its name comes behind all its bytes; holes stay where there are many.
-    fn put_long<I: Incoming<H>>(
-        &mut self,
+    /// Begins a file with the first bytes of its first piece, which was read, and answers its block.
+    fn begin_file<S: FlushStore + Drop>(
+        &self,
+        volume: &mut Opened<S>,
         goods: Goods,
-        incoming: &mut I,
-        piece: &mut [u8],
+        piece: &[u8],
         first: usize,
-    ) -> Result<u32, Fault> {
-        let alloc = self.alloc;
-        let attributes = self.new_attributes(goods.attributes);
+    ) -> Result<u32, Fault>
+        ensures types { S.types_of volume.new.session.store ≡ S.types_of volume.old.session.store }
+        ensures folder { volume.new.folder ≡ volume.old.folder }
+        ensures told { volume.new.told ≡ volume.old.told }
+        ensures does { first ≤ length piece.now →
+            Performs (S.types_of volume.old.session.store) volume.old.folder (BeginsFile goods.entry (take first piece.now) result)
+            (S.state_of volume.old.session.store) (S.state_of volume.new.session.store) volume.old.session.volume volume.new.session.volume }
+    {
+        let attributes = self.new_attributes(volume, goods.attributes);
         let head_len = first.min(piece.len()).min(CONTENT_LEN);
         let begin = Begin {
             kind: Kind::File,
             attributes,
             head: &piece[..head_len],
         };
-        let block = self.volume.make(alloc, goods.path, &begin)?;
-        let done = self.finish(goods, block, incoming, piece, first);
+        volume.make(self.alloc, goods.path, &begin)
+    }
+
+    /// Writes all bytes of an inode that was begun, and gives it its name; or gives it up.
+    fn finish_or_give_up<S: FlushStore + Drop, I: Incoming<H>>(
+        &mut self,
+        volume: &mut Opened<S>,
+        goods: Goods,
+        block: u32,
+        incoming: &mut I,
+        piece: &mut [u8],
+        first: usize,
+    ) -> Result<u32, Fault>
+        ensures types { S.types_of volume.new.session.store ≡ S.types_of volume.old.session.store }
+        ensures folder { volume.new.folder ≡ volume.old.folder }
+        ensures told { volume.new.told ≡ volume.old.told }
+        ensures does { 384 ≤ length piece.old → first ≤ length piece.old →
+            Performs (S.types_of volume.old.session.store) volume.old.folder (OrElse (Finishes goods.entry block (length piece.old)
+            (take first piece.old)) (IsGivenUp block) result)
+            (S.state_of volume.old.session.store) (S.state_of volume.new.session.store) volume.old.session.volume volume.new.session.volume }
+    {
+        let done = self.finish(volume, goods, block, incoming, piece, first);
         if done.is_err() {
-            self.volume.give_up(alloc, block);
+            volume.give_up(self.alloc, block);
         }
         done
     }
 
-    /// Puts a file in the place of what has the name, and answers its number.
-    pub fn put_file<I: Incoming<H>>(
+    /// Puts a file of which the first piece was read, and that may have more. Its name comes behind all its bytes; holes stay where there are many.
+    fn put_long<S: FlushStore + Drop, I: Incoming<H>>(
         &mut self,
+        volume: &mut Opened<S>,
         goods: Goods,
         incoming: &mut I,
         piece: &mut [u8],
-    ) -> Result<u32, Fault> {
-        self.want_space(goods)?;
-        self.forget(goods.place);
+        first: usize,
+    ) -> Result<u32, Fault>
+        ensures types { S.types_of volume.new.session.store ≡ S.types_of volume.old.session.store }
+        ensures folder { volume.new.folder ≡ volume.old.folder }
+        ensures told { volume.new.told ≡ volume.old.told }
+        ensures does { 384 ≤ length piece.old → first ≤ length piece.old →
+            Performs (S.types_of volume.old.session.store) volume.old.folder (PutsLong goods.entry (length piece.old) (take first piece.old) result)
+            (S.state_of volume.old.session.store) (S.state_of volume.new.session.store) volume.old.session.volume volume.new.session.volume }
+    {
+        let block = self.begin_file(volume, goods, piece, first)?;
+        self.finish_or_give_up(volume, goods, block, incoming, piece, first)
+    }
+
+    /// Puts a file of which the first piece was read in the place of what has the name, and answers its number.
+    fn put_read<S: FlushStore + Drop, I: Incoming<H>>(
+        &mut self,
+        volume: &mut Opened<S>,
+        goods: Goods,
+        incoming: &mut I,
+        piece: &mut [u8],
+        first: usize,
+    ) -> Result<u32, Fault>
+        ensures types { S.types_of volume.new.session.store ≡ S.types_of volume.old.session.store }
+        ensures folder { volume.new.folder ≡ volume.old.folder }
+        ensures told { volume.new.told ≡ volume.old.told }
+        ensures does { 384 ≤ length piece.old → first ≤ length piece.old →
+            Performs (S.types_of volume.old.session.store) volume.old.folder (PutsArrived goods.entry (length piece.old) (take first piece.old) result)
+            (S.state_of volume.old.session.store) (S.state_of volume.new.session.store) volume.old.session.volume volume.new.session.volume }
+    {
+        if is_sparse(goods.attributes) {
+            return self.put_long(volume, goods, incoming, piece, first);
+        }
+        if first < piece.len() {
+            self.progress.add_bytes(self.host, self.alloc, first);
+            return self.put_whole(volume, goods, Kind::File, &piece[..first]);
+        }
+        self.put_long(volume, goods, incoming, piece, first)
+    }
+
+    /// Puts a file in the place of what has the name, and answers its number.
+    pub fn put_file<S: FlushStore + Drop, I: Incoming<H>>(
+        &mut self,
+        volume: &mut Opened<S>,
+        goods: Goods,
+        incoming: &mut I,
+        piece: &mut [u8],
+    ) -> Result<u32, Fault>
+        ensures types { S.types_of volume.new.session.store ≡ S.types_of volume.old.session.store }
+        ensures folder { volume.new.folder ≡ volume.old.folder }
+        ensures told { volume.new.told ≡ volume.old.told }
+        ensures does { 384 ≤ length piece.old →
+            Performs (S.types_of volume.old.session.store) volume.old.folder (PutsFile goods.entry (length piece.old) result)
+            (S.state_of volume.old.session.store) (S.state_of volume.new.session.store) volume.old.session.volume volume.new.session.volume }
+    {
+        self.want_space(volume, goods)?;
+        self.forget(volume, goods.place);
         let count = match read_piece(self.host, incoming, piece) {
             Ok(count) => count,
             Err(error) => return Err(system(self.alloc, goods.source.as_bytes(), error)),
         };
-        let number = if count < piece.len() && !is_sparse(goods.attributes) {
-            self.progress.add_bytes(self.host, self.alloc, count);
-            self.put_whole(goods, Kind::File, &piece[..count])?
-        } else {
-            self.put_long(goods, incoming, piece, count)?
-        };
-        self.progress.add_file(self.host, self.alloc);
-        Ok(number)
+        let done = self.put_read(volume, goods, incoming, piece, count);
+        if done.is_ok() {
+            self.progress.add_file(self.host, self.alloc);
+        }
+        done
     }
 
     /// Puts a symbolic link in the place of what has the name, with its time.
-    pub fn put_link(&mut self, goods: Goods) -> Result<(), Fault> {
+    pub fn put_link<S: FlushStore + Drop>(
+        &mut self,
+        volume: &mut Opened<S>,
+        goods: Goods,
+    ) -> Result<(), Fault>
+        ensures types { S.types_of volume.new.session.store ≡ S.types_of volume.old.session.store }
+        ensures folder { volume.new.folder ≡ volume.old.folder }
+        ensures told { volume.new.told ≡ volume.old.told }
+        ensures does { Performs (S.types_of volume.old.session.store) volume.old.folder (PutsLink goods.entry result)
+            (S.state_of volume.old.session.store) (S.state_of volume.new.session.store) volume.old.session.volume volume.new.session.volume }
+    {
         let target = match self.host.target(goods.source) {
             Ok(target) => target,
             Err(error) => return Err(system(self.alloc, goods.source.as_bytes(), error)),
         };
-        self.forget(goods.place);
-        let number = self.put_whole(goods, Kind::SymbolicLink, target.as_bytes())?;
-        self.set_time(goods.path, number, goods.attributes.modified)
+        self.forget(volume, goods.place);
+        let number = self.put_whole(volume, goods, Kind::SymbolicLink, target.as_bytes())?;
+        self.set_time(volume, goods.path, number, goods.attributes.modified)
     }
 }
 

@@ -3,7 +3,7 @@
 use crate::arriving::{Arriving, Goods};
 use flush_store::FlushStore;
 use host_trees::Host;
-use tree_lines::{Fault, Place, Reason, at_bytes, there};
+use tree_lines::{Fault, Opened, Place, Reason, at_bytes, there};
 use treefs_session::{Link, Rename, Unlink};
 
 /// So many names are tried for what has no name of its own yet.
@@ -11,7 +11,8 @@ const MOST_NAMES: u32 = 10_000;
 
 /// A name in the folder of a place, which nothing has. A crash may leave it.
 pub fn free_name<H: Host, S: FlushStore + Drop>(
-    arriving: &Arriving<H, S>,
+    arriving: &Arriving<H>,
+    volume: &Opened<S>,
     goods: Goods,
 ) -> Result<String, Fault> {
     let alloc = arriving.alloc;
@@ -22,7 +23,7 @@ pub fn free_name<H: Host, S: FlushStore + Drop>(
             name: name.as_bytes(),
             has_slash: false,
         };
-        match there(&arriving.volume.session, place) {
+        match there(&volume.session, place) {
             Ok(None) => return Ok(name),
             Ok(Some(_)) => {}
             Err(reason) => return Err(at_bytes(alloc, goods.path, reason)),
@@ -33,7 +34,8 @@ pub fn free_name<H: Host, S: FlushStore + Drop>(
 
 /// Gives a file one more name.
 fn link_as<H: Host, S: FlushStore + Drop>(
-    arriving: &mut Arriving<H, S>,
+    arriving: &mut Arriving<H>,
+    volume: &mut Opened<S>,
     goods: Goods,
     number: u32,
     name: &[u8],
@@ -43,12 +45,13 @@ fn link_as<H: Host, S: FlushStore + Drop>(
         directory: goods.place.folder,
         name,
     };
-    arriving.volume.make_name(arriving.alloc, goods.path, &link)
+    volume.make_name(arriving.alloc, goods.path, &link)
 }
 
 /// Has what has a name of its folder take that of a place, also where that is another file's. Where that fails the name is taken away.
 pub fn move_to_place<H: Host, S: FlushStore + Drop>(
-    arriving: &mut Arriving<H, S>,
+    arriving: &mut Arriving<H>,
+    volume: &mut Opened<S>,
     goods: Goods,
     name: &str,
 ) -> Result<(), Fault> {
@@ -59,61 +62,62 @@ pub fn move_to_place<H: Host, S: FlushStore + Drop>(
         new_directory: directory,
         new_name: goods.place.name,
     };
-    let done = arriving
-        .volume
-        .make_name(arriving.alloc, goods.path, &rename);
+    let done = volume.make_name(arriving.alloc, goods.path, &rename);
     if done.is_err() {
-        take_back(arriving, goods, name);
+        take_back(arriving, volume, goods, name);
     }
     done
 }
 
 /// Takes a name of the folder of a place away. That this fails is not told beside the fault that was before.
 pub fn take_back<H: Host, S: FlushStore + Drop>(
-    arriving: &mut Arriving<H, S>,
+    arriving: &mut Arriving<H>,
+    volume: &mut Opened<S>,
     goods: Goods,
     name: &str,
 ) {
-    if arriving.volume.is_broken() {
+    if volume.is_broken() {
         return;
     }
     let unlink = Unlink {
         directory: goods.place.folder,
         name: name.as_bytes(),
     };
-    let _unlinked = arriving.volume.make(arriving.alloc, goods.path, &unlink);
+    let _unlinked = volume.make(arriving.alloc, goods.path, &unlink);
 }
 
 /// Gives a file one more name, in the place of what has it: under a name beside it first, which then becomes that one.
 fn link_over<H: Host, S: FlushStore + Drop>(
-    arriving: &mut Arriving<H, S>,
+    arriving: &mut Arriving<H>,
+    volume: &mut Opened<S>,
     goods: Goods,
     number: u32,
 ) -> Result<(), Fault> {
-    let beside = free_name(arriving, goods)?;
-    link_as(arriving, goods, number, beside.as_bytes())?;
-    move_to_place(arriving, goods, beside.as_str())
+    let beside = free_name(arriving, volume, goods)?;
+    link_as(arriving, volume, goods, number, beside.as_bytes())?;
+    move_to_place(arriving, volume, goods, beside.as_str())
 }
 
 /// Gives a file that was put the name of a place, which may be that of another file.
 pub fn link<H: Host, S: FlushStore + Drop>(
-    arriving: &mut Arriving<H, S>,
+    arriving: &mut Arriving<H>,
+    volume: &mut Opened<S>,
     goods: Goods,
     number: u32,
 ) -> Result<(), Fault> {
-    let node = match there(&arriving.volume.session, goods.place) {
+    let node = match there(&volume.session, goods.place) {
         Ok(node) => node,
         Err(reason) => return Err(at_bytes(arriving.alloc, goods.path, reason)),
     };
     match node {
-        None => link_as(arriving, goods, number, goods.place.name),
+        None => link_as(arriving, volume, goods, number, goods.place.name),
         Some(node) if node.number == number => Ok(()),
         Some(node) if node.is_folder() => {
             Err(at_bytes(arriving.alloc, goods.path, Reason::Folder))
         }
         Some(_) => {
-            arriving.forget(goods.place);
-            link_over(arriving, goods, number)
+            arriving.forget(volume, goods.place);
+            link_over(arriving, volume, goods, number)
         }
     }
 }

@@ -52,9 +52,11 @@ pub fn read_piece<H: Host, I: Incoming<H>>(
     host: &H,
     incoming: &mut I,
     piece: &mut [u8],
-) -> io::Result<usize> {
+) -> io::Result<usize>
+    ensures { IfOk result (λ count. count ≤ length piece.new) }
+{
     let mut filled = 0usize;
-    for _ in 0..u64::MAX {
+    for _some in 0..u64::MAX {
         let Some(room) = piece.get_mut(filled..) else {
             break;
         };

@@ -62,7 +62,8 @@ fn path_of(alloc: Global, goal: Goal, path: &str, name: &str) -> Result<Vec<u8>,
 
 /// Puts what standard input has at a path.
 fn put_stream<H: Host, S: FlushStore + Drop>(
-    arriving: &mut Arriving<H, S>,
+    arriving: &mut Arriving<H>,
+    volume: &mut Opened<S>,
     putting: &Putting,
     piece: &mut [u8],
     input: &mut impl Read,
@@ -71,15 +72,15 @@ fn put_stream<H: Host, S: FlushStore + Drop>(
     if putting.has_lines {
         return Err(at(alloc, "-", Reason::Lines));
     }
-    let folder = arriving.volume.folder;
-    let place = match find_to(&arriving.volume.session, alloc, folder, putting.path, false)? {
+    let folder = volume.folder;
+    let place = match find_to(&volume.session, alloc, folder, putting.path, false)? {
         Goal::Into(_) => return Err(at(alloc, putting.path, Reason::Folder)),
         Goal::To(place) if place.has_slash => {
             return Err(at(alloc, putting.path, Reason::NoFolder));
         }
         Goal::To(place) => place,
     };
-    let replaced = there(&arriving.volume.session, place).ok().flatten();
+    let replaced = there(&volume.session, place).ok().flatten();
     let attributes = stream_attributes(arriving.host, replaced);
     let goods = Goods {
         place,
@@ -87,13 +88,14 @@ fn put_stream<H: Host, S: FlushStore + Drop>(
         source: "-",
         attributes: &attributes,
     };
-    let _number = arriving.put_file(goods, &mut Stream { input }, piece)?;
+    let _number = arriving.put_file(volume, goods, &mut Stream { input }, piece)?;
     Ok(())
 }
 
 /// Puts a file at a goal, or what a pipe or a device has.
 fn put_one_file<H: Host, S: FlushStore + Drop>(
-    arriving: &mut Arriving<H, S>,
+    arriving: &mut Arriving<H>,
+    volume: &mut Opened<S>,
     goal: Goal,
     (source, attributes): (&str, &Attributes),
     path: &str,
@@ -112,7 +114,7 @@ fn put_one_file<H: Host, S: FlushStore + Drop>(
         source,
         attributes,
     };
-    if attributes.kind == Kind::File && is_done(arriving, goods)? {
+    if attributes.kind == Kind::File && is_done(arriving, volume, goods)? {
         return Ok(());
     }
     let file = match arriving.host.open(source) {
@@ -120,16 +122,17 @@ fn put_one_file<H: Host, S: FlushStore + Drop>(
         Err(error) => return Err(system(alloc, source.as_bytes(), error)),
     };
     if attributes.kind == Kind::File {
-        return put_regular(arriving, goods, file, piece);
+        return put_regular(arriving, volume, goods, file, piece);
     }
     let mut incoming: OpenFile<H> = OpenFile { file };
-    let _number = arriving.put_file(goods, &mut incoming, piece)?;
+    let _number = arriving.put_file(volume, goods, &mut incoming, piece)?;
     Ok(())
 }
 
 /// Puts a folder at a goal; one without a name of its own fills the folder that is there.
 fn put_one_folder<H: Host, S: FlushStore + Drop>(
-    arriving: &mut Arriving<H, S>,
+    arriving: &mut Arriving<H>,
+    volume: &mut Opened<S>,
     goal: Goal,
     (source, attributes): (&str, &Attributes),
     path: &str,
@@ -139,7 +142,7 @@ fn put_one_folder<H: Host, S: FlushStore + Drop>(
     let name = own_name(source);
     let frame = match goal {
         Goal::Into(number) if name.is_empty() => {
-            enter_there(arriving, (source, attributes), path.as_bytes(), number)?
+            enter_there(arriving, volume, (source, attributes), path.as_bytes(), number)?
         }
         _ => {
             let told = path_of(alloc, goal, path, name)?;
@@ -149,15 +152,16 @@ fn put_one_folder<H: Host, S: FlushStore + Drop>(
                 source,
                 attributes,
             };
-            enter(arriving, goods)?
+            enter(arriving, volume, goods)?
         }
     };
-    put_folder(arriving, alloc, frame, piece)
+    put_folder(arriving, volume, alloc, frame, piece)
 }
 
 /// Puts what stands at a path of the system, whose links are followed.
 fn put_one<H: Host, S: FlushStore + Drop>(
-    arriving: &mut Arriving<H, S>,
+    arriving: &mut Arriving<H>,
+    volume: &mut Opened<S>,
     putting: &Putting,
     source: &str,
     piece: &mut [u8],
@@ -170,10 +174,10 @@ fn put_one<H: Host, S: FlushStore + Drop>(
         Ok(attributes) => attributes,
         Err(error) => return Err(system(alloc, source.as_bytes(), error)),
     };
-    let folder = arriving.volume.folder;
+    let folder = volume.folder;
     let are_several = putting.sources.len() > 1;
     let goal = find_to(
-        &arriving.volume.session,
+        &volume.session,
         alloc,
         folder,
         putting.path,
@@ -181,29 +185,30 @@ fn put_one<H: Host, S: FlushStore + Drop>(
     )?;
     let from = (source, &attributes);
     match attributes.kind {
-        Kind::Folder => put_one_folder(arriving, goal, from, putting.path, piece),
-        _ => put_one_file(arriving, goal, from, putting.path, piece),
+        Kind::Folder => put_one_folder(arriving, volume, goal, from, putting.path, piece),
+        _ => put_one_file(arriving, volume, goal, from, putting.path, piece),
     }
 }
 
 /// Puts all sources, one after the other.
 fn put_all<H: Host, S: FlushStore + Drop>(
-    arriving: &mut Arriving<H, S>,
+    arriving: &mut Arriving<H>,
+    volume: &mut Opened<S>,
     putting: &Putting,
     input: &mut impl Read,
 ) -> Result<(), Fault> {
     let mut piece = room_for_piece(arriving.alloc)?;
     if putting.sources.len() > 1 {
-        let (folder, path) = (arriving.volume.folder, putting.path);
-        let _goal = find_to(&arriving.volume.session, arriving.alloc, folder, path, true)?;
+        let (folder, path) = (volume.folder, putting.path);
+        let _goal = find_to(&volume.session, arriving.alloc, folder, path, true)?;
     }
     for source in putting.sources {
         let done = if *source == "-" {
-            put_stream(arriving, putting, &mut piece, input)
+            put_stream(arriving, volume, putting, &mut piece, input)
         } else {
-            put_one(arriving, putting, source, &mut piece)
+            put_one(arriving, volume, putting, source, &mut piece)
         };
-        arriving.volume.told.go_on(done)?;
+        volume.told.go_on(done)?;
     }
     Ok(())
 }
@@ -222,8 +227,8 @@ pub fn put<H: Host, S: FlushStore + Drop>(
         Some(path) => host.attributes_through(path).ok(),
         None => None,
     };
-    let mut arriving = Arriving::begin(host, volume, alloc, disk);
-    let done = put_all(&mut arriving, &putting, input);
+    let mut arriving = Arriving::begin(host, alloc, disk);
+    let done = put_all(&mut arriving, volume, &putting, input);
     arriving.end();
     done
 }

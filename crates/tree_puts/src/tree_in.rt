@@ -7,7 +7,7 @@ use flush_store::FlushStore;
 use host_trees::{Attributes, Host, Kind, joined};
 use std::alloc::Global;
 use system_files::WriteFault;
-use tree_lines::{Fault, Place, Reason, at, at_bytes, at_word, below, not_written, system, there};
+use tree_lines::{Fault, Opened, Place, Reason, at, at_bytes, at_word, below, not_written, system, there};
 use treefs_session::Mkdir;
 
 /// What is set of a folder of a volume once it is full.
@@ -35,7 +35,8 @@ pub struct Frame {
 
 /// The names of a folder of the system, the last one first. Those that are no text are told, and so is what could not be read.
 fn names_of<H: Host, S: FlushStore + Drop>(
-    arriving: &mut Arriving<H, S>,
+    arriving: &mut Arriving<H>,
+    volume: &mut Opened<S>,
     source: &str,
 ) -> Result<Vec<String>, Fault> {
     let alloc = arriving.alloc;
@@ -49,11 +50,11 @@ fn names_of<H: Host, S: FlushStore + Drop>(
             source,
             "has names that are no text, and they are left out",
         );
-        arriving.volume.told.tell(fault)?;
+        volume.told.tell(fault)?;
     }
     if let Some(error) = found.fault {
         let fault = system(alloc, source.as_bytes(), error);
-        arriving.volume.told.tell(fault)?;
+        volume.told.tell(fault)?;
     }
     let mut names = found.names;
     names.reverse();
@@ -62,33 +63,35 @@ fn names_of<H: Host, S: FlushStore + Drop>(
 
 /// The folder of a volume that a folder of the system goes to, which is made where nothing is, and what is set of it at the end.
 fn folder_at<H: Host, S: FlushStore + Drop>(
-    arriving: &mut Arriving<H, S>,
+    arriving: &mut Arriving<H>,
+    volume: &mut Opened<S>,
     goods: Goods,
 ) -> Result<(u32, AtEnd), Fault> {
     let alloc = arriving.alloc;
-    match there(&arriving.volume.session, goods.place) {
+    match there(&volume.session, goods.place) {
         Ok(Some(node)) if node.is_folder() => return Ok((node.number, AtEnd::All)),
         Ok(Some(_)) => return Err(at_bytes(alloc, goods.path, Reason::NoFolder)),
         Ok(None) => {}
         Err(reason) => return Err(at_bytes(alloc, goods.path, reason)),
     }
-    let attributes = arriving.new_attributes(goods.attributes);
+    let attributes = arriving.new_attributes(volume, goods.attributes);
     let mkdir = Mkdir {
         directory: goods.place.folder,
         name: goods.place.name,
         attributes,
     };
-    let number = arriving.volume.make_name(alloc, goods.path, &mkdir)?;
+    let number = volume.make_name(alloc, goods.path, &mkdir)?;
     Ok((number, AtEnd::Time))
 }
 
 /// Begins with a folder that goes to a place.
 pub fn enter<H: Host, S: FlushStore + Drop>(
-    arriving: &mut Arriving<H, S>,
+    arriving: &mut Arriving<H>,
+    volume: &mut Opened<S>,
     goods: Goods,
 ) -> Result<Frame, Fault> {
-    let waiting = names_of(arriving, goods.source)?;
-    let (number, at_end) = folder_at(arriving, goods)?;
+    let waiting = names_of(arriving, volume, goods.source)?;
+    let (number, at_end) = folder_at(arriving, volume, goods)?;
     Ok(Frame {
         source: String::from_str(arriving.alloc, goods.source)?,
         path: Vec::from_slice(arriving.alloc, goods.path)?,
@@ -101,13 +104,14 @@ pub fn enter<H: Host, S: FlushStore + Drop>(
 
 /// Begins with a folder that fills one that is there, by its number.
 pub fn enter_there<H: Host, S: FlushStore + Drop>(
-    arriving: &mut Arriving<H, S>,
+    arriving: &mut Arriving<H>,
+    volume: &mut Opened<S>,
     (source, attributes): (&str, &Attributes),
     path: &[u8],
     number: u32,
 ) -> Result<Frame, Fault> {
     Ok(Frame {
-        waiting: names_of(arriving, source)?,
+        waiting: names_of(arriving, volume, source)?,
         source: String::from_str(arriving.alloc, source)?,
         path: Vec::from_slice(arriving.alloc, path)?,
         number,
@@ -118,19 +122,21 @@ pub fn enter_there<H: Host, S: FlushStore + Drop>(
 
 /// Ends with a folder that is full.
 fn settle<H: Host, S: FlushStore + Drop>(
-    arriving: &mut Arriving<H, S>,
+    arriving: &mut Arriving<H>,
+    volume: &mut Opened<S>,
     frame: &Frame,
 ) -> Result<(), Fault> {
     match frame.at_end {
         AtEnd::Nothing => Ok(()),
-        AtEnd::Time => arriving.set_time(&frame.path, frame.number, frame.attributes.modified),
-        AtEnd::All => arriving.set_all(&frame.path, frame.number, &frame.attributes),
+        AtEnd::Time => arriving.set_time(volume, &frame.path, frame.number, frame.attributes.modified),
+        AtEnd::All => arriving.set_all(volume, &frame.path, frame.number, &frame.attributes),
     }
 }
 
 /// Whether a regular file is in the volume already, under another name: then it gets this one too. The disk itself is refused.
 pub fn is_done<H: Host, S: FlushStore + Drop>(
-    arriving: &mut Arriving<H, S>,
+    arriving: &mut Arriving<H>,
+    volume: &mut Opened<S>,
     goods: Goods,
 ) -> Result<bool, Fault> {
     if let Some(disk) = &arriving.disk
@@ -144,7 +150,7 @@ pub fn is_done<H: Host, S: FlushStore + Drop>(
     }
     match arriving.number_of(goods.attributes) {
         Some(number) => {
-            link(arriving, goods, number)?;
+            link(arriving, volume, goods, number)?;
             Ok(true)
         }
         None => Ok(false),
@@ -153,24 +159,26 @@ pub fn is_done<H: Host, S: FlushStore + Drop>(
 
 /// Puts a regular file that is open, with its time, and notes it where it has more names.
 pub fn put_regular<H: Host, S: FlushStore + Drop>(
-    arriving: &mut Arriving<H, S>,
+    arriving: &mut Arriving<H>,
+    volume: &mut Opened<S>,
     goods: Goods,
     file: H::File,
     piece: &mut [u8],
 ) -> Result<(), Fault> {
     let mut incoming: OpenFile<H> = OpenFile { file };
-    let number = arriving.put_file(goods, &mut incoming, piece)?;
+    let number = arriving.put_file(volume, goods, &mut incoming, piece)?;
     arriving.note(goods.attributes, number)?;
-    arriving.set_time(goods.path, number, goods.attributes.modified)
+    arriving.set_time(volume, goods.path, number, goods.attributes.modified)
 }
 
 /// Puts a file below a folder, or gives it one more name where it was put under another one.
 fn put_file_below<H: Host, S: FlushStore + Drop>(
-    arriving: &mut Arriving<H, S>,
+    arriving: &mut Arriving<H>,
+    volume: &mut Opened<S>,
     goods: Goods,
     piece: &mut [u8],
 ) -> Result<(), Fault> {
-    if is_done(arriving, goods)? {
+    if is_done(arriving, volume, goods)? {
         return Ok(());
     }
     let source = goods.source.as_bytes();
@@ -182,7 +190,7 @@ fn put_file_below<H: Host, S: FlushStore + Drop>(
                 source: goods.source,
                 attributes: &opened,
             };
-            put_regular(arriving, goods, file, piece)
+            put_regular(arriving, volume, goods, file, piece)
         }
         Ok(None) => Err(not_written(arriving.alloc, source, WriteFault::Link)),
         Err(error) => Err(system(arriving.alloc, source, error)),
@@ -191,7 +199,8 @@ fn put_file_below<H: Host, S: FlushStore + Drop>(
 
 /// Brings a name of a folder in. Answers the folder that it is, where it is one.
 fn put_name<H: Host, S: FlushStore + Drop>(
-    arriving: &mut Arriving<H, S>,
+    arriving: &mut Arriving<H>,
+    volume: &mut Opened<S>,
     frame: (&str, &[u8], u32),
     name: &str,
     piece: &mut [u8],
@@ -215,9 +224,9 @@ fn put_name<H: Host, S: FlushStore + Drop>(
         attributes: &attributes,
     };
     match attributes.kind {
-        Kind::Folder => return Ok(Some(enter(arriving, goods)?)),
-        Kind::File => put_file_below(arriving, goods, piece)?,
-        Kind::SymbolicLink => arriving.put_link(goods)?,
+        Kind::Folder => return Ok(Some(enter(arriving, volume, goods)?)),
+        Kind::File => put_file_below(arriving, volume, goods, piece)?,
+        Kind::SymbolicLink => arriving.put_link(volume, goods)?,
         Kind::Other => return Err(at(alloc, source.as_str(), Reason::Special)),
     }
     Ok(None)
@@ -236,18 +245,20 @@ fn is_full(fault: &Fault) -> bool {
 
 /// Keeps a fault after which the next name is brought in, and passes those on after which that can't be.
 fn go_on<H: Host, S: FlushStore + Drop>(
-    arriving: &mut Arriving<H, S>,
+    arriving: &mut Arriving<H>,
+    volume: &mut Opened<S>,
     fault: Fault,
 ) -> Result<(), Fault> {
     if is_full(&fault) {
         return Err(fault);
     }
-    arriving.volume.told.go_on(Err(fault))
+    volume.told.go_on(Err(fault))
 }
 
 /// Brings the next name of the last of some folders in, or ends with that.
 fn step<H: Host, S: FlushStore + Drop>(
-    arriving: &mut Arriving<H, S>,
+    arriving: &mut Arriving<H>,
+    volume: &mut Opened<S>,
     frames: &mut Vec<Frame>,
     piece: &mut [u8],
 ) -> Result<(), Fault> {
@@ -255,24 +266,25 @@ fn step<H: Host, S: FlushStore + Drop>(
         return Ok(());
     };
     let Some(name) = frame.waiting.pop() else {
-        return match settle(arriving, &frame) {
+        return match settle(arriving, volume, &frame) {
             Ok(()) => Ok(()),
-            Err(fault) => go_on(arriving, fault),
+            Err(fault) => go_on(arriving, volume, fault),
         };
     };
     let folder = (frame.source.as_str(), frame.path.as_slice(), frame.number);
-    let done = put_name(arriving, folder, name.as_str(), piece);
+    let done = put_name(arriving, volume, folder, name.as_str(), piece);
     frames.push(frame)?;
     match done {
         Ok(Some(next)) => Ok(frames.push(next)?),
         Ok(None) => Ok(()),
-        Err(fault) => go_on(arriving, fault),
+        Err(fault) => go_on(arriving, volume, fault),
     }
 }
 
 /// Brings a folder of the system with all below it in, name by name. A name that can't be brought in is told and left out.
 pub fn put_folder<H: Host, S: FlushStore + Drop>(
-    arriving: &mut Arriving<H, S>,
+    arriving: &mut Arriving<H>,
+    volume: &mut Opened<S>,
     alloc: Global,
     frame: Frame,
     piece: &mut [u8],
@@ -283,7 +295,7 @@ pub fn put_folder<H: Host, S: FlushStore + Drop>(
         if frames.is_empty() {
             break;
         }
-        step(arriving, &mut frames, piece)?;
+        step(arriving, volume, &mut frames, piece)?;
     }
     Ok(())
 }

@@ -1,0 +1,5 @@
+mod Performed
+mod Arrivals
+mod Whole
+mod Holes
+mod HolePieces

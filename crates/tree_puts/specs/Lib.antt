@@ -1,0 +1,5 @@
+pub mod Actions
+pub mod Places
+pub mod Holes
+pub mod Arriving
+pub mod Linked
