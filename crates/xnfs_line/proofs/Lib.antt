@@ -1,1 +1,2 @@
+mod ShellTurns
 mod WordCases

@@ -517,12 +517,12 @@ pub fn run_shell<H: Host, S: FlushStore + Drop>(
     for number in 1..u64::MAX {
         let Some(ended) = run_next(outside, opened, alloc, (shell, number), input, out, err)?
         else {
-            break;
+            return Ok(status);
         };
         let _ = err.flush();
         status = status.max(ended.status());
         if !ended.goes_on() {
-            break;
+            return Ok(status);
         }
         out.flush()?;
     }

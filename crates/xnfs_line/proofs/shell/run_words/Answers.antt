@@ -15,13 +15,13 @@ returns g c =
     record {
       types = ap (λ s. g.S.Store.types_of s.store) c.tell_ended.ensures.session ∙ ran.ensures.types;
       does = inr (
-        _,
+        c.in-Ok-Some.word,
         first.told,
         before.told,
         ran.result,
-        subst (λ folder. ShellWordDoes T lazy first.folder folder _ first.told before.told old (g.S.Store.state_of after.session.store) first.session.volume
+        subst (λ folder. ShellWordDoes T lazy first.folder folder c.in-Ok-Some.word first.told before.told old (g.S.Store.state_of after.session.store) first.session.volume
             after.session.volume ran.result) (sym c.tell_ended.ensures.folder)
-            (subst (λ s. ShellWordDoes T lazy first.folder before.folder _ first.told before.told old (g.S.Store.state_of s.store) first.session.volume s.volume
+            (subst (λ s. ShellWordDoes T lazy first.folder before.folder c.in-Ok-Some.word first.told before.told old (g.S.Store.state_of s.store) first.session.volume s.volume
             ran.result) (sym c.tell_ended.ensures.session) ran.ensures.does),
         c.tell_ended.ensures.ended,
       );
