@@ -1,14 +1,16 @@
 -- A word goes along some paths: at one of them, one more of them, and one that ends the line.
-use Rattle.std.proofs.Common.{◌≡◌, ◌∙◌, ℕ, ◌+◌, ◌<◌, List, [], ◌∷◌, ◌++◌, Bor, Result, Ok, Err, length, take, drop, map, get_or}
+use Rattle.std.proofs.Common.{◌≡◌, ◌∙◌, ℕ, ◌+◌, ◌-◌, ◌^◌, ◌<◌, Bool, true, false, List, [], ◌∷◌, ◌++◌, Bor, Result, Ok, Err, length, take, drop, map, get_or}
 use Rattle.std.proofs.Common.{ap, arith, refl, subst, sym, length-append}
-use Rattle.std.specs.Prelude.{IfOk, IsErr, MatchResult}
+use Rattle.std.specs.Prelude.{IsErr, MatchBool, MatchResult, min, nat_lt}
+use Rattle.std.proofs.lemmas.Bool.{ltb-false}
 use Rattle.std.proofs.lemmas.List.{drop_more, take-append-drop, take_more, get_or-map, length-map}
 use Rattle.xn_model.specs.Lives.{StoreState}
 use Rattle.xn_model.specs.Types.{Types}
 use Rattle.treefs_model.specs.declared.fault.Fault.{Fault}
 use Rattle.treefs.specs.declared.volume.Volume.{Volume}
 use Rattle.tree_lines.specs.Answers.{Answers}
-use Rattle.tree_lines.specs.Telling.{GoesOn, LeavesOut}
+use Rattle.tree_lines.specs.Telling.{GoesOn, LeavesOut, PassesOn, Tells}
+use Rattle.tree_lines.specs.declared.fault.Fault.{Fault as LineFault}
 use Rattle.tree_lines.specs.declared.told.Told.{Told}
 use Rattle.tree_changes.specs.Paths.{AtPath, DoesAll, DoesPaths, EndsAt, StopsAt, TellsEach}
 use Rattle.tree_changes.specs.Paths.DoesEach.{does, leaves, none}
@@ -68,17 +70,33 @@ out_of_more told told1 told2 left path out =
     let more : length (left ++ path ∷ []) ≡ length left + 1 = length-append left (path ∷ []) in
     (λ none. absurd (omega arith), λ some. out.1 (omega arith))
 
+-- a fault that is told is one that was left out
+
+some_told : (few : Bool) (told told' : Told) (fault : LineFault) → nat_lt (length told.faults.items) 1000 ≡ few → MatchBool few
+    ((told'.faults.items ≡ told.faults.items ++ fault ∷ []) × (told'.more ≡ told.more))
+    ((told'.faults.items ≡ told.faults.items) × (told'.more ≡ min (told.more + 1) (2 ^ 64 - 1))) → 0 < length told'.faults.items
+some_told true told told' fault few tells =
+    let long = ap length tells.0 ∙ length-append told.faults.items (fault ∷ []) in omega (arith, long)
+some_told false told told' fault few tells =
+    let many = ltb-false (length told.faults.items) 1000 few in
+    let long = ap length tells.0 in omega (arith, long, many)
+
+told_is_left_out : (told told' : Told) (fault : LineFault) → Tells told told' fault → LeavesOut told told' 1
+told_is_left_out told told' fault tells =
+    (λ none. absurd (omega arith), λ some. some_told (nat_lt (length told.faults.items) 1000) told told' fault refl tells)
+
 module _ (Done Left : List ℕ → StoreState → StoreState → Volume → Volume → Type 0) (told told1 told2 : Told) (old middle new : StoreState)
     (volume between volume' : Volume) (before : List (List ℕ)) (path : List ℕ) (tells : TellsEach Done Left before told told1 old middle volume between) where
-  one_after : {E : Type 0} (done answer : Result (Unit {0}) E) → AtPath Done Left path middle new between volume' done → GoesOn told1 told2 done answer →
+  one_after : (done answer : Result (Unit {0}) LineFault) → AtPath Done Left path middle new between volume' done → GoesOn told1 told2 done answer →
       answer ≡ Ok tt → TellsEach Done Left (before ++ path ∷ []) told told2 old new volume volume'
   one_after (Ok made) answer at goes ok =
       (tells.0, does middle between tells.1 at, subst (λ (t : Told). LeavesOut told t (length tells.0)) (sym goes.1) tells.2)
-  one_after {E} (Err fault) answer at goes ok =
-      let out : LeavesOut told1 told2 1 = subst (λ (r : Result (Unit {0}) E). IfOk r (λ made. LeavesOut told1 told2 1)) ok goes in
+  one_after (Err fault) answer at goes ok =
+      let passed = subst (λ (r : Result (Unit {0}) LineFault). PassesOn told1 told2 fault r) ok goes in
+      let out : LeavesOut told1 told2 1 = told_is_left_out told1 told2 fault passed.1 in
       (tells.0 ++ path ∷ [], leaves middle between tells.1 at, out_of_more told told1 told2 tells.0 path out)
 
-  left_there : {E : Type 0} (done answer : Result (Unit {0}) E) (fault : E) → AtPath Done Left path middle new between volume' done →
+  left_there : (done answer : Result (Unit {0}) LineFault) (fault : LineFault) → AtPath Done Left path middle new between volume' done →
       GoesOn told1 told2 done answer → answer ≡ Err fault → Left path middle new between volume'
   left_there (Ok made) answer fault at goes err = let ok = goes.0 in cc
   left_there (Err other) answer fault at goes err = at
@@ -95,9 +113,9 @@ stops_there Done Left paths place default within told told1 told2 old middle new
     [ Ok made ↦ λ wrong. cc | Err fault ↦ λ right. at ] err
 
 -- Done, Left: of the types and the folder that stay
-module _ {E : Type 0} (Done Left : Types → ℕ → List ℕ → StoreState → StoreState → Volume → Volume → Type 0) (T types : Types) (top folder : ℕ)
+module _ (Done Left : Types → ℕ → List ℕ → StoreState → StoreState → Volume → Volume → Type 0) (T types : Types) (top folder : ℕ)
     (types_are : types ≡ T) (folder_is : folder ≡ top) (paths : List (Bor (List ℕ))) (place : ℕ) (default : Bor (List ℕ)) (within : place < length paths)
-    (told told0 told1 told2 : Told) (old middle new : StoreState) (volume between volume' : Volume) (done answer : Result (Unit {0}) E)
+    (told told0 told1 told2 : Told) (old middle new : StoreState) (volume between volume' : Volume) (done answer : Result (Unit {0}) LineFault)
     (tells : TellsEach (Done T top) (Left T top) (take place (texts paths)) told told0 old middle volume between) (told_is : told1 ≡ told0)
     (at : AtPath (Done types folder) (Left types folder) (get_or paths place default).now middle new between volume' done)
     (goes : GoesOn told1 told2 done answer) where
@@ -116,7 +134,7 @@ module _ {E : Type 0} (Done Left : Types → ℕ → List ℕ → StoreState →
       (one_after (Done T top) (Left T top) told told1 told2 old middle new volume between volume' (take place (texts paths)) (get_or paths place default).now
       tells_so done answer at_so goes ok)
 
-  pub ends_there : (fault : E) (result : Result (Unit {0}) E) → answer ≡ Err fault → IsErr result →
+  pub ends_there : {E : Type 0} (fault : LineFault) (result : Result (Unit {0}) E) → answer ≡ Err fault → IsErr result →
       DoesPaths (Done T top) (Left T top) (texts paths) told told2 old new volume volume' result
   ends_there fault result err is =
       let path = (get_or paths place default).now in

@@ -6,3 +6,4 @@ mod Missing
 mod Parents
 mod Removals
 mod Moved
+mod GoneThrough

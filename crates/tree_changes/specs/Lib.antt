@@ -7,3 +7,4 @@ pub mod Files
 pub mod Removing
 pub mod Naming
 pub mod Moving
+pub mod Below

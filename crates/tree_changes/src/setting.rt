@@ -2,6 +2,7 @@
 
 ghost use Rattle.std.specs.Prelude.{◌≡◌, false, map};
 ghost use Rattle.tree_changes.specs.Attributes.{IsSet, IsUnset, SetsIfAny, set_of};
+ghost use Rattle.tree_changes.specs.Below.{SetsBelow};
 ghost use Rattle.tree_changes.specs.Paths.{AtPath, DoesPaths};
 ghost use Rattle.tree_lines.specs.Answers.{Answers};
 
@@ -77,6 +78,8 @@ fn set_below<S: FlushStore + Drop>(
 ) -> Result<(), Fault>
     ensures types { S.types_of opened.new.session.store ≡ S.types_of opened.old.session.store }
     ensures folder { opened.new.folder ≡ opened.old.folder }
+    ensures does { SetsBelow setting.now (S.types_of opened.old.session.store) opened.old.folder path.now folder opened.old.told opened.new.told
+        (S.state_of opened.old.session.store) (S.state_of opened.new.session.store) opened.old.session.volume opened.new.session.volume result }
 {
     let mut walk = Walk::below(alloc, path.as_bytes(), folder)?;
     for _name in 0..u64::MAX {
