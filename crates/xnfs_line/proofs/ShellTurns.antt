@@ -40,5 +40,11 @@ module _ (T T' : Types) (same : T' ≡ T) (lazy : Bool) (status folder here fold
           (subst (λ (types : Types). ShellLineDoes types lazy (ended_status ended) here folder' middle new (with_clock between d.0) volume') same d.1))
 
 pub nothing_told : {E : Type 0} (status : ℕ) (result : Result ℕ E) → IsErr result → IfOk result (λ told. told ≡ status)
-nothing_told status (Ok told) err = absurd err
+nothing_told status (Ok told) err = absurd (cc err)
 nothing_told status (Err fault) err = tt
+
+pub at_time : (T : Types) (lazy : Bool) (status folder folder' : ℕ) (old new : StoreState) (before volume volume' : Volume) (time : ℤ) →
+    volume ≡ with_clock before time → ShellLineDoes T lazy status folder folder' old new volume volume' →
+    (x : ℤ) × ShellLineDoes T lazy status folder folder' old new (with_clock before x) volume'
+at_time T lazy status folder folder' old new before volume volume' time is does =
+    (time, subst (λ (v : Volume). ShellLineDoes T lazy status folder folder' old new v volume') is does)

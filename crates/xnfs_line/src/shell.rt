@@ -328,6 +328,25 @@ fn ended_by(fault: &Fault, is_broken: bool) -> Ended
     }
 }
 
+/// Does what a word asks for that was read, and tells its fault.
+fn run_read_word<H: Host, S: FlushStore + Drop>(
+    host: &H,
+    opened: &mut Opened<S>,
+    alloc: Global,
+    asked: (Shell, u64),
+    word: &Word,
+    out: &mut impl Write,
+    err: &mut impl Write,
+) -> Ended
+    ensures types { S.types_of opened.new.session.store ≡ S.types_of opened.old.session.store }
+    ensures does { ShellLineDoes (S.types_of opened.old.session.store) asked.entry.0.is_lazy (ended_status result) opened.old.folder opened.new.folder
+        (S.state_of opened.old.session.store) (S.state_of opened.new.session.store) opened.old.session.volume opened.new.session.volume }
+{
+    let (shell, number) = asked;
+    let done = run_shell_word(host, opened, alloc, (word, shell), out);
+    tell_ended(opened, alloc, (shell.image, number), done, out, err)
+}
+
 /// Does what the words of a line ask for, and tells its fault.
 fn run_words<H: Host, S: FlushStore + Drop>(
     host: &H,
@@ -352,8 +371,7 @@ fn run_words<H: Host, S: FlushStore + Drop>(
     if let Word::Exit = word {
         return Ended::Exit;
     }
-    let done = run_shell_word(host, opened, alloc, (&word, shell), out);
-    tell_ended(opened, alloc, line, done, out, err)
+    run_read_word(host, opened, alloc, asked, &word, out, err)
 }
 
 /// Does what a line of a shell asks for, and tells its fault. A line without words is passed over.

@@ -1,5 +1,6 @@
 use Rattle.std.proofs.Common.{inl, refl, subst}
 use Rattle.xnfs_line.specs.Shells.{ShellLineDoes, ended_status}
+use Rattle.xnfs_line.proofs.ShellTurns.{at_time}
 use Rattle.xnfs_line.proofs.shell.run_next.Goals as goal
 
 -- nothing is done
@@ -14,10 +15,7 @@ returns-in_ok-time_of-in-Line-clause-does g c =
     let after = c.run_bytes.new.opened in
     let lazy = c.args.asked.0.is_lazy in
     let status = ended_status c.run_bytes.result in
-    (
-      c.in_ok-time_of-in-Line.field-0,
-      subst (λ volume. ShellLineDoes (g.S.Store.types_of first.session.store) lazy status first.folder after.folder (g.S.Store.state_of first.session.store)
-          (g.S.Store.state_of after.session.store) volume after.session.volume) c.set_clock.ensures.volume
-          (subst (λ store. ShellLineDoes (g.S.Store.types_of store) lazy status first.folder after.folder (g.S.Store.state_of store)
-          (g.S.Store.state_of after.session.store) before.volume after.session.volume) c.set_clock.ensures.store c.run_bytes.ensures.does),
-    )
+    at_time (g.S.Store.types_of first.session.store) lazy status first.folder after.folder (g.S.Store.state_of first.session.store)
+    (g.S.Store.state_of after.session.store) first.session.volume before.volume after.session.volume _ c.set_clock.ensures.volume
+    (subst (λ store. ShellLineDoes (g.S.Store.types_of store) lazy status first.folder after.folder (g.S.Store.state_of store)
+    (g.S.Store.state_of after.session.store) before.volume after.session.volume) c.set_clock.ensures.store c.run_bytes.ensures.does)

@@ -1,6 +1,6 @@
 use Rattle.std.proofs.Common.{◌∙◌, ap, inr, subst, sym}
 use Rattle.xnfs_line.specs.Shells.{ShellWordDoes}
-use Rattle.xnfs_line.proofs.shell.run_words.Goals as goal
+use Rattle.xnfs_line.proofs.shell.run_read_word.Goals as goal
 
 -- the word was done, and what it left out is told
 pub returns : goal.returns
@@ -15,13 +15,13 @@ returns g c =
     record {
       types = ap (λ s. g.S.Store.types_of s.store) c.tell_ended.ensures.session ∙ ran.ensures.types;
       does = inr (
-        c.in-Ok-Some.word,
+        c.args.word.now,
         first.told,
         before.told,
         ran.result,
-        subst (λ folder. ShellWordDoes T lazy first.folder folder c.in-Ok-Some.word first.told before.told old (g.S.Store.state_of after.session.store) first.session.volume
+        subst (λ folder. ShellWordDoes T lazy first.folder folder c.args.word.now first.told before.told old (g.S.Store.state_of after.session.store) first.session.volume
             after.session.volume ran.result) (sym c.tell_ended.ensures.folder)
-            (subst (λ s. ShellWordDoes T lazy first.folder before.folder c.in-Ok-Some.word first.told before.told old (g.S.Store.state_of s.store) first.session.volume s.volume
+            (subst (λ s. ShellWordDoes T lazy first.folder before.folder c.args.word.now first.told before.told old (g.S.Store.state_of s.store) first.session.volume s.volume
             ran.result) (sym c.tell_ended.ensures.session) ran.ensures.does),
         c.tell_ended.ensures.ended,
       );
