@@ -1,19 +1,21 @@
 -- What words do below a folder: one step more, and the end.
-use Rattle.std.proofs.Common.{◌≡◌, ◌∙◌, ℕ, ◌+◌, ◌-◌, ◌^◌, List, Result, Ok, Err, ap, inl, inr, refl, subst, sym}
+use Rattle.std.proofs.Common.{◌≡◌, ◌∙◌, ℕ, ◌+◌, true, List, Result, Ok, Err, inl, inr, refl, subst, sym}
 use Rattle.std.specs.Prelude.{IsErr, MatchResult}
 use Rattle.xn_model.specs.Lives.{StoreState}
 use Rattle.xn_model.specs.Types.{Types}
 use Rattle.treefs_model.specs.declared.fault.Fault.{Fault}
 use Rattle.treefs.specs.declared.volume.Volume.{Volume}
 use Rattle.tree_lines.specs.Answers.{Answers}
+use Rattle.tree_lines.specs.Places.{IsFolder}
 use Rattle.tree_lines.specs.Telling.{GoesOn, PassesOn}
-use Rattle.tree_lines.specs.Trees.{ComesIn}
+use Rattle.tree_lines.specs.Trees.{ComesIn, IsNodeIn}
 use Rattle.tree_lines.specs.Walks.{IsUnmet, Met, Progress, begun}
-use Rattle.tree_lines.specs.Walks.Outcome.{Ends, Meets}
+use Rattle.tree_lines.specs.Walks.Outcome.{Meets}
 use Rattle.tree_lines.specs.declared.fault.Fault.{Fault as LineFault}
+use Rattle.tree_lines.specs.declared.node.Node.{Node}
 use Rattle.tree_lines.specs.declared.told.Told.{Told}
 use Rattle.tree_changes.specs.Attributes.{SetsIfAny, set_of}
-use Rattle.tree_changes.specs.Below.{SetsAll, SetsBelow, SetsEach, SetsUpTo, TellsIfAny}
+use Rattle.tree_changes.specs.Below.{SetsAll, SetsBelow, SetsEach, SetsTreeAt, SetsUpTo, TellsIfAny}
 use Rattle.tree_changes.specs.Below.GoesThrough.{more, none}
 use Rattle.tree_changes.specs.declared.setting.Setting.{Setting}
 
@@ -24,7 +26,8 @@ module _ (Does : Result (Unit {0}) Fault → Type 0) (told told1 told' : Told) (
   told_so fault answer passes ok =
       subst (λ (t : Told). PassesOn t told' fault (Ok tt)) told_is (subst (λ (r : Result (Unit {0}) LineFault). PassesOn told1 told' fault r) ok passes)
 
-  pub told_if_any : (done answer : Result (Unit {0}) LineFault) → Answers Does done → GoesOn told1 told' done answer → answer ≡ Ok tt → TellsIfAny Does told told'
+  pub told_if_any : (done answer : Result (Unit {0}) LineFault) → Answers Does done → GoesOn told1 told' done answer → answer ≡ Ok tt →
+      TellsIfAny Does told told'
   told_if_any (Ok made) answer does goes ok = inl (does, goes.1 ∙ told_is)
   told_if_any (Err fault) answer does goes ok = let passed = told_so fault answer goes ok in inr (does.0, fault, does.1, passed.0, passed.1)
 
@@ -47,7 +50,8 @@ module _ (setting : Setting) (T : Types) (top : ℕ) (path : List ℕ) (number :
   pub not_begun : {E : Type 0} (told' : Told) (result : Result (Unit {0}) E) → IsErr result →
       SetsBelow setting T top path number told0 told' old old volume0 volume0 result
   not_begun told' result err =
-      is_err (SetsAll setting T top path number told0 told' old old volume0 volume0) (SetsUpTo setting T top path number told0 old old volume0 volume0) result err
+      is_err (SetsAll setting T top path number told0 told' old old volume0 volume0) (SetsUpTo setting T top path number told0 old old volume0 volume0)
+      result err
       (0, begun path number, told0, old, volume0, none, inl (refl, refl))
 
   module _ (steps : ℕ) (far : Progress) (told : Told) (state : StoreState) (volume : Volume)
@@ -71,7 +75,8 @@ module _ (setting : Setting) (T : Types) (top : ℕ) (path : List ℕ) (number :
       pub one_set : answer ≡ Ok tt → SetsEach setting T top (begun path number) told0 old volume0 (steps + 1) far' told' new volume'
       one_set ok =
           more far told told1 tt state volume (Meets met) each comes
-          (told_if_any (SetsIfAny T top met.node.number (set_of setting met.node) state new volume volume') told1 told2 told' told_is done answer does_so goes ok)
+          (told_if_any (SetsIfAny T top met.node.number (set_of setting met.node) state new volume volume') told1 told2 told' told_is done answer does_so
+          goes ok)
 
       pub set_ends : {E : Type 0} (ends : LineFault) (result : Result (Unit {0}) E) → answer ≡ Err ends → IsErr result →
           SetsBelow setting T top path number told0 told' old new volume0 volume' result
@@ -80,3 +85,25 @@ module _ (setting : Setting) (T : Types) (top : ℕ) (path : List ℕ) (number :
           ends does_so goes wrong in
           is_err (SetsAll setting T top path number told0 told' old new volume0 volume') (SetsUpTo setting T top path number told0 old new volume0 volume')
           result err (steps, far, told, state, volume, each, inr (refused.0, (far', told1, met, comes, refused.1)))
+
+-- of what stands at a path, and of all below it
+
+module _ {E : Type 0} (setting : Setting) (T types : Types) (top folder : ℕ) (types_is : types ≡ T) (folder_is : folder ≡ top) (path : List ℕ)
+    (told told1 told' : Told) (told_is : told1 ≡ told) (old middle new : StoreState) (volume between volume' : Volume) (node : Node)
+    (there : IsNodeIn old volume top path true node)
+    (set : SetsIfAny T top node.number (set_of setting node) old middle volume between (Ok tt)) (is : IsFolder node) where
+  below_so : (result : Result (Unit {0}) E) → SetsBelow setting types folder path node.number told1 told' middle new between volume' result →
+      SetsBelow setting T top path node.number told told' middle new between volume' result
+  below_so result below =
+      subst (λ (t : Told). SetsBelow setting T top path node.number t told' middle new between volume' result) told_is
+      (subst (λ (n : ℕ). SetsBelow setting T n path node.number told1 told' middle new between volume' result) folder_is
+      (subst (λ (t : Types). SetsBelow setting t folder path node.number told1 told' middle new between volume' result) types_is below))
+
+  tree_there : (result : Result (Unit {0}) E) → SetsBelow setting T top path node.number told told' middle new between volume' result →
+      SetsTreeAt setting T top path told told' old new volume volume' result
+  tree_there (Ok done) all = (node, middle, between, there, set, inr (is, all))
+  tree_there (Err fault) some = inr (node, middle, between, there, set, is, some)
+
+  pub tree_set : (result : Result (Unit {0}) E) → SetsBelow setting types folder path node.number told1 told' middle new between volume' result →
+      SetsTreeAt setting T top path told told' old new volume volume' result
+  tree_set result below = tree_there result (below_so result below)

@@ -7,3 +7,4 @@ mod Parents
 mod Removals
 mod Moved
 mod GoneThrough
+mod Emptied

@@ -1,25 +1,28 @@
 -- What words do below a folder, name by name, each in the volume that the one before left.
---     TellsIfAny        what was done had no fault; or it is told
---     GoesThrough       a walk comes to something, with which something is done, so often
---     HasEnded          then it is at its end
---     SetsMet           what is to be set of a name that is met
---     SetsEach          the same, of each that is met
---     SetsNext          the same call, of the next one
+--     TellsIfAny              what was done had no fault; or it is told
+--     GoesThrough             a walk comes to something, with which something is done, so often
+--     HasEnded                then it is at its end
+--     SetsMet                 what is to be set of a name that is met
+--     SetsEach                the same, of each that is met
+--     SetsNext                the same call, of the next one
 --     SetsAll, SetsUpTo       what is to be set below a folder is set; or up to a fault that ends the line
---     SetsBelow         the one or the other
-use Rattle.std.specs.Prelude.{◌≡◌, ◌⊎◌, ℕ, ◌+◌, ◌-◌, ◌^◌, List, Result, Ok, Err, MatchResult}
+--     SetsBelow               the one or the other
+--     SetsTree, SetsTreeUpTo, SetsTreeAt      the same, of what stands at a path and all below it
+use Rattle.std.specs.Prelude.{◌≡◌, ◌⊎◌, ℕ, ◌+◌, ◌-◌, ◌^◌, true, List, Result, Ok, Err, MatchResult}
 use Rattle.xn_model.specs.Lives.{StoreState}
 use Rattle.xn_model.specs.Types.{Types}
 use Rattle.treefs_model.specs.declared.fault.Fault.{Fault}
 use Rattle.treefs.specs.declared.volume.Volume.{Volume}
+use Rattle.tree_lines.specs.Places.{IsFolder}
 use Rattle.tree_lines.specs.Telling.{EndsLine, Tells}
-use Rattle.tree_lines.specs.Trees.{ComesIn}
+use Rattle.tree_lines.specs.Trees.{ComesIn, IsNodeIn}
 use Rattle.tree_lines.specs.Walks.{IsUnmet, Met, Outcome, Progress, begun}
 use Rattle.tree_lines.specs.Walks.Outcome.{Ends, Leaves, Meets, Unseen}
 use Rattle.tree_lines.specs.declared.fault.Fault.{Fault as LineFault}
+use Rattle.tree_lines.specs.declared.node.Node.{Node}
 use Rattle.tree_lines.specs.declared.told.Told.{Told}
-use Rattle.tree_changes.specs.Attributes.{SetsIfAny, set_of}
-use Rattle.tree_changes.specs.Paths.{IsRefused}
+use Rattle.tree_changes.specs.Attributes.{IsUnset, SetsIfAny, set_of}
+use Rattle.tree_changes.specs.Paths.{IsRefused, IsSame}
 use Rattle.tree_changes.specs.declared.setting.Setting.{Setting}
 
 -- Does: what the call did, and answered
@@ -76,3 +79,21 @@ abbrev pub SetsBelow : {E : Type 0} → Setting → Types → ℕ → List ℕ �
 SetsBelow setting T folder path number told told' old new volume volume' result =
     MatchResult result (λ done. SetsAll setting T folder path number told told' old new volume volume')
     (λ fault. SetsUpTo setting T folder path number told old new volume volume')
+
+-- of what stands at a path, a symbolic link at whose end is followed, and of all below it where it is a folder
+abbrev pub SetsTree : Setting → Types → ℕ → List ℕ → Told → Told → StoreState → StoreState → Volume → Volume → Type 0
+SetsTree setting T folder path told told' old new volume volume' = (node : Node) × (middle : StoreState) × (between : Volume)
+    × IsNodeIn old volume folder path true node × SetsIfAny T folder node.number (set_of setting node) old middle volume between (Ok tt)
+    × (((¬ IsFolder node) × IsSame middle new between volume' × (told' ≡ told))
+    ⊎ (IsFolder node × SetsAll setting T folder path node.number told told' middle new between volume'))
+
+abbrev pub SetsTreeUpTo : Setting → Types → ℕ → List ℕ → Told → StoreState → StoreState → Volume → Volume → Type 0
+SetsTreeUpTo setting T folder path told old new volume volume' = IsUnset setting T folder path old new volume volume'
+    ⊎ ((node : Node) × (middle : StoreState) × (between : Volume) × IsNodeIn old volume folder path true node
+    × SetsIfAny T folder node.number (set_of setting node) old middle volume between (Ok tt) × IsFolder node
+    × SetsUpTo setting T folder path node.number told middle new between volume')
+
+abbrev pub SetsTreeAt : {E : Type 0} → Setting → Types → ℕ → List ℕ → Told → Told → StoreState → StoreState → Volume → Volume → Result (Unit {0}) E → Type 0
+SetsTreeAt setting T folder path told told' old new volume volume' result =
+    MatchResult result (λ done. SetsTree setting T folder path told told' old new volume volume')
+    (λ fault. SetsTreeUpTo setting T folder path told old new volume volume')

@@ -8,3 +8,4 @@ pub mod Removing
 pub mod Naming
 pub mod Moving
 pub mod Below
+pub mod Emptying

@@ -1,9 +1,16 @@
 // The word `rm`.
 
-ghost use Rattle.std.specs.Prelude.{◌≡◌, MatchResult, false, map, true};
-ghost use Rattle.tree_changes.specs.Paths.{AtPath, DoesPaths};
+ghost use Rattle.std.specs.Prelude.{◌≡◌, ◌↔◌, Err, IfErr, IfOk, IsTrue, MatchResult, false, map, nat_lt, true};
+ghost use Rattle.treefs_model.specs.declared.fault.Fault.{Fault as Why};
+ghost use Rattle.tree_changes.specs.Emptying.{Empties, EmptiesUpTo, KeepsNamed, KeepsTree, RemovesAllNamed, RemovesTree};
+ghost use Rattle.tree_changes.specs.Emptying.{TakesIfAny, TakesName, TellsLeft, step_visited};
+ghost use Rattle.tree_changes.specs.Folders.{RmdirIn};
+ghost use Rattle.tree_changes.specs.Paths.{AtPath, DoesPaths, IsSame};
 ghost use Rattle.tree_changes.specs.Removing.{IsKept, IsNameKept, Removes, RemovesNamed, TellsMissing, UnlinkIn};
 ghost use Rattle.tree_lines.specs.Answers.{Answers};
+ghost use Rattle.tree_lines.specs.Telling.{count_of};
+ghost use Rattle.tree_lines.specs.Trees.{ComesIn};
+ghost use Rattle.tree_lines.specs.Walks.{IsUnseen, progress};
 
 use flush_store::FlushStore;
 use std::alloc::Global;
@@ -46,13 +53,38 @@ fn end_folder<S: FlushStore + Drop>(
     ensures types { S.types_of opened.new.session.store ≡ S.types_of opened.old.session.store }
     ensures folder { opened.new.folder ≡ opened.old.folder }
     ensures told { opened.new.told ≡ opened.old.told }
+    ensures does { Answers (RmdirIn (S.types_of opened.old.session.store) opened.old.folder place.entry.0 place.entry.1.now
+        (S.state_of opened.old.session.store) (S.state_of opened.new.session.store) opened.old.session.volume opened.new.session.volume) result }
 {
     let (directory, name) = place;
     opened.make(alloc, path, &Rmdir { directory, name })
 }
 
+/// Takes the name of an empty folder, or of a file or a symbolic link.
+fn take_name<S: FlushStore + Drop>(
+    opened: &mut Opened<S>,
+    alloc: Global,
+    path: &[u8],
+    place: (u32, &[u8]),
+    is_folder: bool,
+) -> Result<(), Fault>
+    ensures types { S.types_of opened.new.session.store ≡ S.types_of opened.old.session.store }
+    ensures folder { opened.new.folder ≡ opened.old.folder }
+    ensures told { opened.new.told ≡ opened.old.told }
+    ensures does { Answers (TakesName (S.types_of opened.old.session.store) opened.old.folder is_folder place.entry.0 place.entry.1.now
+        (S.state_of opened.old.session.store) (S.state_of opened.new.session.store) opened.old.session.volume opened.new.session.volume) result }
+{
+    if is_folder {
+        end_folder(opened, alloc, path, place)
+    } else {
+        unlink(opened, alloc, path, place)
+    }
+}
+
 /// Whether a fault is that of a folder in which something is left.
-fn is_left(fault: &Fault) -> bool {
+fn is_left(fault: &Fault) -> bool
+    ensures { IsTrue result ↔ TellsLeft fault.now }
+{
     matches!(
         fault,
         Fault::At {
@@ -73,14 +105,17 @@ fn remove_step<S: FlushStore + Drop>(
 ) -> Result<bool, Fault>
     ensures types { S.types_of opened.new.session.store ≡ S.types_of opened.old.session.store }
     ensures folder { opened.new.folder ≡ opened.old.folder }
+    ensures does { MatchResult result
+        (λ removed. TakesIfAny (TakesName (S.types_of opened.old.session.store) opened.old.folder met.entry.1 met.entry.0.now.folder met.entry.0.now.name.items
+        (S.state_of opened.old.session.store) (S.state_of opened.new.session.store) opened.old.session.volume opened.new.session.volume)
+        is_whole opened.old.told opened.new.told removed)
+        (λ told. (fault : Why) × TakesName (S.types_of opened.old.session.store) opened.old.folder met.entry.1 met.entry.0.now.folder
+        met.entry.0.now.name.items (S.state_of opened.old.session.store) (S.state_of opened.new.session.store)
+        opened.old.session.volume opened.new.session.volume (Err fault)) }
 {
     let (step, is_left_behind) = met;
     let place = (step.folder, step.name.as_slice());
-    let done = if is_left_behind {
-        end_folder(opened, alloc, walk.path(), place)
-    } else {
-        unlink(opened, alloc, walk.path(), place)
-    };
+    let done = take_name(opened, alloc, walk.path(), place, is_left_behind);
     match done {
         Ok(()) => Ok(true),
         Err(fault) if !is_whole && is_left(&fault) => Ok(false),
@@ -99,6 +134,10 @@ fn next_step<S: FlushStore + Drop>(
 ) -> Result<(Option<(Step, bool)>, bool), Fault>
     ensures types { S.types_of opened.new.session.store ≡ S.types_of opened.old.session.store }
     ensures folder { opened.new.folder ≡ opened.old.folder }
+    ensures same { IsSame (S.state_of opened.old.session.store) (S.state_of opened.new.session.store) opened.old.session.volume opened.new.session.volume }
+    ensures comes { IfOk result (λ next. ComesIn (S.state_of opened.old.session.store) opened.old.session.volume IsUnseen (progress walk.old) opened.old.told
+        (progress walk.new) opened.new.told (step_visited next.0)) }
+    ensures unseen { IfOk result (λ next. next.1 ≡ nat_lt (count_of opened.old.told) (count_of opened.new.told)) }
 {
     let before = opened.told.count();
     let visit = walk.next(&opened.session, alloc, &mut opened.told)?;
@@ -120,6 +159,11 @@ fn empty_folder<S: FlushStore + Drop>(
 ) -> Result<bool, Fault>
     ensures types { S.types_of opened.new.session.store ≡ S.types_of opened.old.session.store }
     ensures folder { opened.new.folder ≡ opened.old.folder }
+    ensures does { MatchResult result
+        (λ whole. Empties (S.types_of opened.old.session.store) opened.old.folder path.now folder whole opened.old.told opened.new.told
+        (S.state_of opened.old.session.store) (S.state_of opened.new.session.store) opened.old.session.volume opened.new.session.volume)
+        (λ fault. EmptiesUpTo (S.types_of opened.old.session.store) opened.old.folder path.now folder opened.old.told
+        (S.state_of opened.old.session.store) (S.state_of opened.new.session.store) opened.old.session.volume opened.new.session.volume) }
 {
     let mut is_whole = true;
     let mut walk = Walk::below(alloc, path.as_bytes(), folder)?;
@@ -136,6 +180,29 @@ fn empty_folder<S: FlushStore + Drop>(
         is_whole = is_whole && is_removed;
     }
     Ok(is_whole)
+}
+
+/// Removes a folder of a name and a number with all below it.
+fn remove_tree<S: FlushStore + Drop>(
+    opened: &mut Opened<S>,
+    alloc: Global,
+    path: &str,
+    place: (u32, &[u8]),
+    number: u32,
+) -> Result<(), Fault>
+    ensures types { S.types_of opened.new.session.store ≡ S.types_of opened.old.session.store }
+    ensures folder { opened.new.folder ≡ opened.old.folder }
+    ensures does { MatchResult result
+        (λ done. RemovesTree (S.types_of opened.old.session.store) opened.old.folder path.now number place.entry.0 place.entry.1.now opened.old.told
+        opened.new.told (S.state_of opened.old.session.store) (S.state_of opened.new.session.store) opened.old.session.volume opened.new.session.volume)
+        (λ fault. KeepsTree (S.types_of opened.old.session.store) opened.old.folder path.now number place.entry.0 place.entry.1.now opened.old.told
+        opened.new.told (S.state_of opened.old.session.store) (S.state_of opened.new.session.store) opened.old.session.volume opened.new.session.volume) }
+{
+    if empty_folder(opened, alloc, path, number)? {
+        end_folder(opened, alloc, path.as_bytes(), place)
+    } else {
+        Ok(())
+    }
 }
 
 /// Removes what has a name that is there.
@@ -155,6 +222,13 @@ fn remove_named<S: FlushStore + Drop>(
         (S.state_of opened.old.session.store) (S.state_of opened.new.session.store) opened.old.session.volume opened.new.session.volume)
         (λ fault. IsNameKept (S.types_of opened.old.session.store) opened.old.folder place.entry.folder place.entry.name.now place.entry.has_slash
         (S.state_of opened.old.session.store) (S.state_of opened.new.session.store) opened.old.session.volume opened.new.session.volume) }
+    ensures all { how.is_recursive ≡ true → MatchResult result
+        (λ done. RemovesAllNamed how.is_forced (S.types_of opened.old.session.store) opened.old.folder path.now place.entry.folder place.entry.name.now
+        place.entry.has_slash opened.old.told opened.new.told
+        (S.state_of opened.old.session.store) (S.state_of opened.new.session.store) opened.old.session.volume opened.new.session.volume)
+        (λ fault. KeepsNamed (S.types_of opened.old.session.store) opened.old.folder path.now place.entry.folder place.entry.name.now place.entry.has_slash
+        opened.old.told opened.new.told
+        (S.state_of opened.old.session.store) (S.state_of opened.new.session.store) opened.old.session.volume opened.new.session.volume) }
 {
     let node = match there(&opened.session, place) {
         Ok(Some(node)) => node,
@@ -167,13 +241,7 @@ fn remove_named<S: FlushStore + Drop>(
         false if place.has_slash => Err(at(alloc, path, Reason::NoFolder)),
         false => unlink(opened, alloc, path.as_bytes(), named),
         true if !how.is_recursive => Err(at(alloc, path, Reason::Folder)),
-        true => {
-            if empty_folder(opened, alloc, path, node.number)? {
-                end_folder(opened, alloc, path.as_bytes(), named)
-            } else {
-                Ok(())
-            }
-        }
+        true => remove_tree(opened, alloc, path, named, node.number),
     }
 }
 

@@ -1,8 +1,8 @@
 // The words `chmod` and `chown`.
 
-ghost use Rattle.std.specs.Prelude.{◌≡◌, false, map};
+ghost use Rattle.std.specs.Prelude.{◌≡◌, false, map, true};
 ghost use Rattle.tree_changes.specs.Attributes.{IsSet, IsUnset, SetsIfAny, set_of};
-ghost use Rattle.tree_changes.specs.Below.{SetsBelow};
+ghost use Rattle.tree_changes.specs.Below.{SetsBelow, SetsTreeAt};
 ghost use Rattle.tree_changes.specs.Paths.{AtPath, DoesPaths};
 ghost use Rattle.tree_lines.specs.Answers.{Answers};
 
@@ -106,6 +106,9 @@ fn set_one<S: FlushStore + Drop>(
     ensures does { is_recursive ≡ false →
         AtPath (IsSet setting.now (S.types_of opened.old.session.store) opened.old.folder)
         (IsUnset setting.now (S.types_of opened.old.session.store) opened.old.folder) path.now
+        (S.state_of opened.old.session.store) (S.state_of opened.new.session.store) opened.old.session.volume opened.new.session.volume result }
+    ensures below { is_recursive ≡ true →
+        SetsTreeAt setting.now (S.types_of opened.old.session.store) opened.old.folder path.now opened.old.told opened.new.told
         (S.state_of opened.old.session.store) (S.state_of opened.new.session.store) opened.old.session.volume opened.new.session.volume result }
 {
     let node = find(&opened.session, alloc, opened.folder, path, true)?;

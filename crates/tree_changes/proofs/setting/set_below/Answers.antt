@@ -1,4 +1,4 @@
-use Rattle.std.proofs.Common.{◌≡◌, ◌∙◌, ℕ, ◌-◌, ◌^◌, Option, ap, arith, inl, inr, refl, subst}
+use Rattle.std.proofs.Common.{◌≡◌, ◌∙◌, ◌-◌, ◌^◌, Option, ap, arith, inl, inr, refl, subst}
 use Rattle.tree_lines.specs.Trees.{ComesIn}
 use Rattle.tree_lines.specs.Walks.{IsUnmet, begun, met_of, progress, step_outcome}
 use Rattle.tree_lines.specs.Walks.Outcome.{Meets}
