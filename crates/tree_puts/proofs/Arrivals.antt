@@ -1,11 +1,10 @@
 -- Pieces of a file are written as they arrive.
-use Rattle.std.proofs.Common.{◌≡◌, ◌∙◌, ℕ, ◌+◌, ◌-◌, ◌^◌, ◌==◌, ◌<◌, ◌≤◌, min, ◌⊎◌, List, [], ◌∷◌, ◌++◌, length, map, take, drop, Bor, Option, None, Some}
+use Rattle.std.proofs.Common.{◌≡◌, ◌∙◌, ℕ, ◌+◌, ◌-◌, ◌^◌, ◌<◌, ◌≤◌, min, ◌⊎◌, List, [], ◌∷◌, ◌++◌, length, map, take, drop, Bor, Option, None, Some}
 use Rattle.std.proofs.Common.{Result, Ok, Err, unwrap_or, ap, arith, inl, inr, length-append, refl, sym}
 use Rattle.std.proofs.lemmas.List.{append-nil, append_assoc, drop-take, drop_all, length-take, map-append, take-take, take_min}
 use Rattle.std.specs.Prelude.{IfOk, IsErr, MatchOption, slice_range}
 use Rattle.xn_model.specs.Lives.{StoreState}
 use Rattle.xn_model.specs.Types.{Types}
-use Rattle.treefs_model.specs.declared.fault.Fault.{Fault}
 use Rattle.treefs.specs.declared.volume.Volume.{Volume}
 use Rattle.tree_puts.specs.Actions.{Action, Calls, Performs}
 use Rattle.tree_puts.specs.Actions.Action.{writes}

@@ -1,19 +1,19 @@
 -- The pieces of a file with holes, as they arrive.
 use Rattle.std.proofs.Common.{◌≡◌, ◌∙◌, ℕ, ◌+◌, ◌-◌, ◌^◌, ◌==◌, ◌<◌, ◌≤◌, min, Bool, true, false, cond, List, [], ◌∷◌, ◌++◌, length, map, take}
-use Rattle.std.proofs.Common.{Result, Ok, Err, ap, arith, inl, inr, refl, subst, sym}
+use Rattle.std.proofs.Common.{Result, Ok, ap, arith, refl, subst, sym}
 use Rattle.std.proofs.lemmas.Bool.Decides.{nat_tests}
 use Rattle.std.proofs.lemmas.List.{append-nil, length-take}
 use Rattle.std.specs.Prelude.{IsErr}
 use Rattle.xn_model.specs.Lives.{StoreState}
 use Rattle.xn_model.specs.Types.{Types}
 use Rattle.treefs.specs.declared.volume.Volume.{Volume}
-use Rattle.tree_puts.specs.Actions.{Action, Performs}
+use Rattle.tree_puts.specs.Actions.{Performs}
 use Rattle.tree_puts.specs.Arriving.{IsWritten, WritesHoles, WritesSome, written}
 use Rattle.tree_puts.specs.Holes.{end_at, hole_end, hole_writes, is_open_behind, is_open_with, is_piece_open, piece_stretches}
 use Rattle.tree_puts.specs.Places.{BeginsWith, IsAll, place_behind, placed}
 use Rattle.tree_puts.proofs.Arrivals.{IsArriving, all_arrived, all_of_most, all_with_short, full_more, next_arriving, piece_written, place_more}
 use Rattle.tree_puts.proofs.Arrivals.{stops_behind, unended, unread, unwritten, written_more}
-use Rattle.tree_puts.proofs.Performed.{by_plan, none_done}
+use Rattle.tree_puts.proofs.Performed.{by_plan}
 
 -- One more piece
 

@@ -1,5 +1,5 @@
 -- The pieces of a file with holes are written as they arrive.
-use Rattle.std.proofs.Common.{◌≡◌, ◌∙◌, ℕ, zero, suc, ◌+◌, ◌-◌, ◌^◌, ◌==◌, ◌<◌, ◌≤◌, min, Bool, true, false, cond, List, [], ◌∷◌, ◌++◌, length, map, take, drop}
+use Rattle.std.proofs.Common.{◌≡◌, ◌∙◌, ℕ, zero, suc, ◌+◌, ◌-◌, ◌==◌, ◌<◌, ◌≤◌, min, Bool, true, false, cond, List, [], ◌∷◌, ◌++◌, length, map, take, drop}
 use Rattle.std.proofs.Common.{ap, arith, length-append, length-drop, lit<, refl, sym, Err}
 use borrow.Author.Tests.{lt-ltb}
 use Rattle.std.proofs.lemmas.Bool.Decides.{nat_tests}
@@ -8,7 +8,7 @@ use Rattle.xn_model.specs.Lives.{StoreState}
 use Rattle.xn_model.specs.Types.{Types}
 use Rattle.treefs_model.specs.declared.fault.Fault.{Fault}
 use Rattle.treefs.specs.declared.volume.Volume.{Volume}
-use Rattle.tree_puts.specs.Actions.{Action, Calls, Performs}
+use Rattle.tree_puts.specs.Actions.{Action, Performs}
 use Rattle.tree_puts.specs.Actions.Action.{writes}
 use Rattle.tree_puts.specs.Arriving.{IsWritten, WritesSome, written}
 use Rattle.tree_puts.specs.Holes.{are_zeros, end_at, first_unwritten, is_left_open, is_piece_open, part_end, parts, parts_of, piece_stretches, stretch_at}
@@ -161,9 +161,14 @@ module _ {T types : Types} {top folder block at : ℕ} {bytes : List ℕ} {from 
       let all : piece_stretches at bytes ≡ map (stretch_at at bytes) so.done ++ stretch_at at bytes (from, to) ∷ map (stretch_at at bytes) behind =
       ap (λ (l : List (ℕ × ℕ)). map (stretch_at at bytes) l) (sym so.split ∙ ap (λ (l : List (ℕ × ℕ)). so.done ++ l) next_is)
       ∙ map-append (stretch_at at bytes) so.done ((from, to) ∷ behind) in
-      both_done so.performed types_are folder_is next (λ before last is failed.
-      (map (stretch_at at bytes) so.done, stretch_at at bytes (from, to), map (stretch_at at bytes) behind, failed.0, all,
-      ap (λ (l : List Action). l ++ last) is ∙ ap (λ (l : List Action). map (written block) (map (stretch_at at bytes) so.done) ++ l) failed.1))
+      both_done so.performed types_are folder_is next (λ before last is failed. (
+        map (stretch_at at bytes) so.done,
+        stretch_at at bytes (from, to),
+        map (stretch_at at bytes) behind,
+        failed.0,
+        all,
+        ap (λ (l : List Action). l ++ last) is ∙ ap (λ (l : List Action). map (written block) (map (stretch_at at bytes) so.done) ++ l) failed.1,
+      ))
 
 pub zeros_next : (from to : ℕ) (part behind rest : List ℕ) → rest ≡ part ++ behind → length part ≡ min 4096 (length rest) → 0 < length rest →
     are_zeros part ≡ true → stretches from to (parts rest) ≡ (from, to) ∷ stretches (part_end to part) (part_end to part) (parts behind)

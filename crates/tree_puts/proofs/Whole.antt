@@ -8,9 +8,9 @@ use Rattle.xn_model.specs.Lives.{StoreState}
 use Rattle.xn_model.specs.Types.{Types}
 use Rattle.treefs_model.specs.declared.fault.Fault.{Fault}
 use Rattle.treefs.specs.declared.volume.Volume.{Volume}
-use Rattle.tree_puts.specs.Actions.{Action, Performs}
+use Rattle.tree_puts.specs.Actions.{Performs}
 use Rattle.tree_puts.specs.Actions.Action.{writes}
-use Rattle.tree_puts.specs.Arriving.{IsWritten, WritesSome, WritesWhole, written}
+use Rattle.tree_puts.specs.Arriving.{IsWritten, WritesWhole, written}
 use Rattle.tree_puts.specs.Places.{place_behind, placed, whole_writes}
 use Rattle.tree_puts.proofs.Performed.{by_plan}
 use Rattle.tree_puts.proofs.Arrivals.{IsArriving, all_arrived, all_of_most, all_with_short, next_arriving, piece_written, place_more, stops_behind, unread}

@@ -11,7 +11,7 @@
 --     PutsLong           it is begun with its first bytes and finished, or given up
 --     PutsFile           a file is put: one of less than a piece and without holes by one call
 --     PutsLink           a symbolic link is put, and gets its time
-use Rattle.std.specs.Prelude.{◌≡◌, ◌⊎◌, ℕ, ℤ, ◌<◌, ◌≤◌, Bool, true, false, List, [], ◌∷◌, ◌++◌, length, map, take, Some, Result, Ok, Err, IsErr, MatchBool}
+use Rattle.std.specs.Prelude.{◌≡◌, ◌⊎◌, ℕ, ℤ, ◌<◌, ◌≤◌, Bool, true, false, List, [], ◌∷◌, ◌++◌, length, map, take, Some, Result, Ok, Err, IsErr}
 use Rattle.std.specs.Prelude.{MatchResult}
 use Rattle.treefs_format.specs.declared.kind.Kind.{Kind}
 use Rattle.treefs_format.specs.declared.kind.Kind.TheVariants.{File, SymbolicLink}

@@ -5,7 +5,7 @@
 --     BeginsWith       the first piece
 --     AreFull          each has as many bytes as there is room for
 --     IsAll            those of a whole file: all but the last one are full, and that is not
-use Rattle.std.specs.Prelude.{◌≡◌, ◌⊎◌, ℕ, ◌+◌, ◌-◌, ◌^◌, ◌==◌, ◌<◌, ◌≤◌, min, if◌then◌else◌, List, [], ◌∷◌, ◌++◌, length, drop}
+use Rattle.std.specs.Prelude.{◌≡◌, ◌⊎◌, ℕ, ◌+◌, ◌-◌, ◌^◌, ◌==◌, ◌<◌, min, if◌then◌else◌, List, [], ◌∷◌, ◌++◌, length, drop}
 use Rattle.std.specs.List.{AllByRecursion}
 
 abbrev pub place_behind : ℕ → List (List ℕ) → ℕ

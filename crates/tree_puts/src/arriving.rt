@@ -1,6 +1,6 @@
 // One file or symbolic link of the system that is brought in.
 
-ghost use Rattle.std.specs.Prelude.{◌≡◌, ◌<◌, ◌≤◌, OnErr, OnOk, length, take};
+ghost use Rattle.std.specs.Prelude.{◌≡◌, ◌<◌, ◌≤◌, IfOk, OnErr, OnOk, length, take, vec_len};
 ghost use Rattle.tree_puts.specs.Actions.{OrElse, Performs};
 ghost use Rattle.tree_puts.specs.Linked.{Forgets, IsUnnoted, Notes, number_kept};
 ghost use Rattle.tree_puts.specs.Arriving.{BeginsFile, Finishes, HasRights, IsGivenUp, PutsArrived, PutsFile, PutsLink, PutsLong, PutsWhole, SetsAll};
@@ -59,11 +59,7 @@ pub struct Goods<'g> {
 
 impl<'a, H: Host> Arriving<'a, H> {
     /// Nothing is brought in yet.
-    pub fn begin(
-        host: &'a H,
-        alloc: Global,
-        disk: Option<HostAttributes>,
-    ) -> Arriving<'a, H> {
+    pub fn begin(host: &'a H, alloc: Global, disk: Option<HostAttributes>) -> Arriving<'a, H> {
         Arriving {
             host,
             alloc,
@@ -463,6 +459,8 @@ impl<'a, H: Host> Arriving<'a, H> {
 }
 
 /// Room for a piece.
-pub fn room_for_piece(alloc: Global) -> Result<Vec<u8>, AllocError> {
+pub fn room_for_piece(alloc: Global) -> Result<Vec<u8>, AllocError>
+    ensures { IfOk result (λ piece. vec_len piece ≡ PIECE) }
+{
     vec![in alloc; 0u8; PIECE]
 }

@@ -1,6 +1,7 @@
 //! Files and folders of the system that are brought into a volume of trees.
 //!
-//! Of these functions it is proved that they are safe and end.
+//! Of a file and of a symbolic link it is proved which calls bring them in, in which order and with which bytes; of the other functions that they are safe and
+//! end.
 //! May touch: memory, files, streams, clock.
 #![tactic(auto)]
 

@@ -1,5 +1,8 @@
 // A file of the system with several names is put once, and gets the others as links.
 
+ghost use Rattle.std.specs.Prelude.{IfOk, None, string_bytes};
+ghost use Rattle.tree_lines.specs.Trees.{IsThereIn};
+
 use crate::arriving::{Arriving, Goods};
 use flush_store::FlushStore;
 use host_trees::Host;
@@ -14,7 +17,10 @@ pub fn free_name<H: Host, S: FlushStore + Drop>(
     arriving: &Arriving<H>,
     volume: &Opened<S>,
     goods: Goods,
-) -> Result<String, Fault> {
+) -> Result<String, Fault>
+    ensures { IfOk result (λ name.
+        IsThereIn (S.state_of volume.now.session.store) volume.now.session.volume goods.entry.place.folder (string_bytes name) None) }
+{
     let alloc = arriving.alloc;
     for number in 0..MOST_NAMES {
         let name = format!(in alloc; ".xnfs-copy-{number}")?;

@@ -142,7 +142,13 @@ fn put_one_folder<H: Host, S: FlushStore + Drop>(
     let name = own_name(source);
     let frame = match goal {
         Goal::Into(number) if name.is_empty() => {
-            enter_there(arriving, volume, (source, attributes), path.as_bytes(), number)?
+            enter_there(
+                arriving,
+                volume,
+                (source, attributes),
+                path.as_bytes(),
+                number,
+            )?
         }
         _ => {
             let told = path_of(alloc, goal, path, name)?;
@@ -176,13 +182,7 @@ fn put_one<H: Host, S: FlushStore + Drop>(
     };
     let folder = volume.folder;
     let are_several = putting.sources.len() > 1;
-    let goal = find_to(
-        &volume.session,
-        alloc,
-        folder,
-        putting.path,
-        are_several,
-    )?;
+    let goal = find_to(&volume.session, alloc, folder, putting.path, are_several)?;
     let from = (source, &attributes);
     match attributes.kind {
         Kind::Folder => put_one_folder(arriving, volume, goal, from, putting.path, piece),

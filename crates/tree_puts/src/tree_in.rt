@@ -7,7 +7,9 @@ use flush_store::FlushStore;
 use host_trees::{Attributes, Host, Kind, joined};
 use std::alloc::Global;
 use system_files::WriteFault;
-use tree_lines::{Fault, Opened, Place, Reason, at, at_bytes, at_word, below, not_written, system, there};
+use tree_lines::{
+    Fault, Opened, Place, Reason, at, at_bytes, at_word, below, not_written, system, there,
+};
 use treefs_session::Mkdir;
 
 /// What is set of a folder of a volume once it is full.
@@ -128,7 +130,12 @@ fn settle<H: Host, S: FlushStore + Drop>(
 ) -> Result<(), Fault> {
     match frame.at_end {
         AtEnd::Nothing => Ok(()),
-        AtEnd::Time => arriving.set_time(volume, &frame.path, frame.number, frame.attributes.modified),
+        AtEnd::Time => arriving.set_time(
+            volume,
+            &frame.path,
+            frame.number,
+            frame.attributes.modified,
+        ),
         AtEnd::All => arriving.set_all(volume, &frame.path, frame.number, &frame.attributes),
     }
 }

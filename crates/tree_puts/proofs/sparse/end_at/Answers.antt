@@ -1,7 +1,5 @@
-use Rattle.std.proofs.Common.{◌≡◌, ◌<◌, ◌-◌, ◌∷◌, [], List, ap, cond, subst, sym, lt→ltb}
-use Rattle.tree_puts.specs.Actions.{Performs}
+use Rattle.std.proofs.Common.{◌-◌, ◌∷◌, []}
 use Rattle.tree_puts.specs.Actions.Action.{writes}
-use Rattle.tree_puts.specs.Arriving.{WritesEach}
 use Rattle.tree_puts.proofs.Arrivals.{each_of_one}
 use Rattle.tree_puts.proofs.Holes.{long_end}
 use Rattle.tree_puts.proofs.Performed.{by_plan, one_done}

@@ -1,5 +1,4 @@
-use Rattle.std.proofs.Common.{◌≡◌, ◌∙◌, ◌<◌, ℕ, List, [], ap, arith, length, map, refl, rules, subst, sym}
-use Rattle.tree_puts.specs.Actions.{Performs}
+use Rattle.std.proofs.Common.{◌≡◌, ◌∙◌, ◌<◌, ℕ, List, ap, length, map, refl, rules, subst, sym}
 use Rattle.tree_puts.specs.Arriving.{WritesEach, written}
 use Rattle.tree_puts.specs.Holes.{is_open_with, is_piece_open}
 use Rattle.tree_puts.proofs.Arrivals.{ok_so}

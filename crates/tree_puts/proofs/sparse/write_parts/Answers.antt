@@ -1,4 +1,4 @@
-use Rattle.std.proofs.Common.{◌≡◌, ◌∙◌, ◌<◌, ◌^◌, ◌-◌, ℕ, List, Ok, Err, [], ap, arith, length, refl, take}
+use Rattle.std.proofs.Common.{◌≡◌, ◌∙◌, ◌<◌, ◌^◌, ◌-◌, ℕ, List, Err, [], ap, arith, length, refl, take}
 use Rattle.tree_lines.specs.declared.fault.Fault.{Fault as LineFault}
 use Rattle.tree_puts.specs.Holes.{is_open_with}
 use Rattle.tree_puts.proofs.Arrivals.{first_arriving, part_got}
@@ -58,7 +58,7 @@ loop-turn-preserved g c =
           let folder = c.loop-turn.invariant.folder in
           let bytes = c.unwrap_or-bytes.result.now in
           let bytes_are = part_got c.loop-turn.piece 0 c.loop-turn.count c.get.result _ c.unwrap_or-bytes.result refl c.unwrap_or-bytes.ensures so.within
-    c.get.ensures.lookup.0 in
+          c.get.ensures.lookup.0 in
           let left = c.in_ok-is_open.ensures.left ∙ ap (λ (l : List ℕ). is_open_with c.loop-turn.is_open c.loop-turn.at l) bytes_are in
           hole_goes so c.loop-turn.auto.piece (hole_more so bytes bytes_are types folder c.in_ok-is_open.ensures.does) c.if-count-piece.false
           c.saturating_add-at.result c.saturating_add-at.ensures c.in_ok-is_open.is_open left c.in-Ok.count c.read_piece.new.piece c.in-Ok.ensures;

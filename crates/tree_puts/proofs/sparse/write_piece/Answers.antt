@@ -1,6 +1,6 @@
-use Rattle.std.proofs.Common.{◌≡◌, ◌∙◌, ℕ, ◌≤◌, List, [], ◌∷◌, ap, arith, length, min, refl, rules, subst, sym, true, false}
+use Rattle.std.proofs.Common.{◌≡◌, ◌∙◌, ℕ, ◌≤◌, [], ap, arith, length, min, refl, subst, sym}
 use Rattle.std.specs.Slice.Iter.{chunks_rest, chunks_size}
-use Rattle.tree_puts.specs.Holes.{are_zeros, first_unwritten, parts, part_end, piece_stretches, stretches}
+use Rattle.tree_puts.specs.Holes.{first_unwritten, parts, part_end, piece_stretches, stretches}
 use Rattle.tree_puts.proofs.Arrivals.{each_failed}
 use Rattle.tree_puts.proofs.Holes.{StretchesSoFar, all_stretches, first_later, first_of_file, left_open, no_stretches, none_next, part_ends, part_stays}
 use Rattle.tree_puts.proofs.Holes.{some_stretches, zeros_next}

@@ -1,4 +1,4 @@
-use Rattle.std.proofs.Common.{◌≡◌, ℕ, List, drop, refl, subst, take}
+use Rattle.std.proofs.Common.{ℕ, List, drop, refl, subst, take}
 use Rattle.tree_puts.specs.Actions.{Calls, Performs}
 use Rattle.tree_puts.specs.Actions.Action.{writes}
 use Rattle.tree_puts.proofs.Arrivals.{part_got}

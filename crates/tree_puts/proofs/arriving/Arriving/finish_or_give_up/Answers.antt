@@ -1,4 +1,4 @@
-use Rattle.std.proofs.Common.{◌≡◌, ◌∙◌, length, sym, take}
+use Rattle.std.proofs.Common.{◌∙◌, length, sym, take}
 use Rattle.tree_puts.specs.Arriving.{Finishes, IsGivenUp}
 use Rattle.tree_puts.proofs.Performed.{else_done, gave_up}
 use Rattle.tree_puts.proofs.arriving.Arriving.finish_or_give_up.Goals as goal

@@ -10,8 +10,11 @@ returns-then-is_ok-clause-does g c wide =
     let count = c.in-Ok.count in
     let same : length piece ≡ length c.args.piece.now = c.read_piece.auto.piece in
     let few : length (take count piece) ≤ length c.args.piece.now = omega (arith, length-take count piece, same) in
-    by_plan (c.put_read-done.ensures.does (omega (arith, same, wide)) c.in-Ok.ensures) (λ actions so. inr (take count piece, few,
-    subst (λ (n : ℕ). PutsArrived c.args.goods n (take count piece) c.put_read-done.result actions) same so))
+    by_plan (c.put_read-done.ensures.does (omega (arith, same, wide)) c.in-Ok.ensures) (λ actions so. inr (
+      take count piece,
+      few,
+      subst (λ (n : ℕ). PutsArrived c.args.goods n (take count piece) c.put_read-done.result actions) same so,
+    ))
 
 pub returns-else-is_ok-clause-does : goal.returns-else-is_ok-clause-does
 returns-else-is_ok-clause-does g c wide =
@@ -19,5 +22,8 @@ returns-else-is_ok-clause-does g c wide =
     let count = c.in-Ok.count in
     let same : length piece ≡ length c.args.piece.now = c.read_piece.auto.piece in
     let few : length (take count piece) ≤ length c.args.piece.now = omega (arith, length-take count piece, same) in
-    by_plan (c.put_read-done.ensures.does (omega (arith, same, wide)) c.in-Ok.ensures) (λ actions so. inr (take count piece, few,
-    subst (λ (n : ℕ). PutsArrived c.args.goods n (take count piece) c.put_read-done.result actions) same so))
+    by_plan (c.put_read-done.ensures.does (omega (arith, same, wide)) c.in-Ok.ensures) (λ actions so. inr (
+      take count piece,
+      few,
+      subst (λ (n : ℕ). PutsArrived c.args.goods n (take count piece) c.put_read-done.result actions) same so,
+    ))

@@ -1,4 +1,4 @@
-use Rattle.std.proofs.Common.{◌≡◌, ℤ, FitsSigned, inl, inr, of_z, refl, rules, subst, to_z, w64}
+use Rattle.std.proofs.Common.{ℤ, FitsSigned, inl, inr, refl, rules, subst, w64}
 use Rattle.std.proofs.lemmas.Int.{to_z-of_z}
 use Rattle.tree_puts.specs.Arriving.{SetsTime}
 use Rattle.tree_puts.proofs.Performed.{both_done, by_plan}
@@ -15,5 +15,14 @@ returns-clause-does g c =
     let fits : FitsSigned w64 modified = search rules in
     let back = to_z-of_z w64 modified fits in
     both_done c.in_ok-number.ensures.does c.put_whole.ensures.types c.put_whole.ensures.folder c.set_time.ensures.does
-    (λ before behind one other. inr (c.as_bytes-2.result.now, inr (c.in_ok-number.number, before, behind, refl, one,
-    subst (λ (m : ℤ). SetsTime c.in_ok-number.number m c.set_time.result behind) back other)))
+    (λ before behind one other. inr (
+      c.as_bytes-2.result.now,
+      inr (
+        c.in_ok-number.number,
+        before,
+        behind,
+        refl,
+        one,
+        subst (λ (m : ℤ). SetsTime c.in_ok-number.number m c.set_time.result behind) back other,
+      ),
+    ))

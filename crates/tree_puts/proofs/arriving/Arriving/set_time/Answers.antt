@@ -1,4 +1,4 @@
-use Rattle.std.proofs.Common.{◌≡◌, ℤ, FitsSigned, of_z, rules, subst, to_z, w64}
+use Rattle.std.proofs.Common.{ℤ, FitsSigned, of_z, rules, subst, to_z, w64}
 use Rattle.std.proofs.lemmas.Int.{to_z-of_z}
 use Rattle.tree_puts.specs.Actions.{Calls, Performs}
 use Rattle.tree_puts.specs.Actions.Action.{sets_time}

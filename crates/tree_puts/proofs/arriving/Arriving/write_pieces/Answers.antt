@@ -1,4 +1,4 @@
-use Rattle.std.proofs.Common.{◌≡◌, ◌∙◌, Bool, false, length, subst, sym, take, true}
+use Rattle.std.proofs.Common.{◌∙◌, Bool, length, subst, sym, take}
 use Rattle.tree_puts.specs.Arriving.{WritesPieces}
 use Rattle.tree_puts.proofs.Performed.{by_plan}
 use Rattle.tree_puts.proofs.arriving.Arriving.write_pieces.Goals as goal

@@ -1,4 +1,4 @@
-use Rattle.std.proofs.Common.{◌≡◌, ◌∙◌, ◌<◌, ◌^◌, ◌-◌, ℕ, Ok, Err, [], arith, inl, refl, take}
+use Rattle.std.proofs.Common.{◌≡◌, ◌∙◌, ◌<◌, ◌^◌, ◌-◌, Ok, Err, [], arith, inl, refl}
 use Rattle.tree_lines.specs.declared.fault.Fault.{Fault as LineFault}
 use Rattle.tree_puts.specs.Actions.Action.{writes}
 use Rattle.tree_puts.proofs.Arrivals.{first_arriving, part_got}
@@ -73,11 +73,11 @@ loop-turn-preserved g c =
           let bytes = c.unwrap_or-bytes.result.now in
           let bytes_are = part_got c.loop-turn.piece c.loop-turn.from c.loop-turn.to c.get.result _ c.unwrap_or-bytes.result refl c.unwrap_or-bytes.ensures
           so.within
-    c.get.ensures.lookup.0 in
+          c.get.ensures.lookup.0 in
           let done = one_done (g.S.Store.types_of before.session.store) before.folder (g.S.Store.state_of before.session.store) (g.S.Store.state_of
           after.session.store)
-    before.session.volume after.session.volume {A = Unit {0}} {E = LineFault} (writes c.args.block c.loop-turn.at bytes) (Ok tt)
-    c.in_ok-write_all.ensures.does in
+          before.session.volume after.session.volume {A = Unit {0}} {E = LineFault} (writes c.args.block c.loop-turn.at bytes) (Ok tt)
+          c.in_ok-write_all.ensures.does in
           whole_goes so c.loop-turn.auto.piece (whole_more so types folder bytes bytes_are done) wide c.if-to-piece.false bytes bytes_are
           c.saturating_add-at.result c.saturating_add-at.ensures c.in-Ok.count c.read_piece.new.piece c.in-Ok.ensures;
     }
