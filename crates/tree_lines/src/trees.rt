@@ -1,6 +1,7 @@
 // An open volume of trees is looked at.
 
 ghost use Rattle.std.specs.Prelude.{◌≡◌};
+ghost use Rattle.tree_lines.specs.Contents.{HasStretch, HasTarget, ReadsIn};
 ghost use Rattle.tree_lines.specs.Looks.{FindsPath, node_seen, number_seen};
 
 use crate::counting::block_count;
@@ -41,6 +42,12 @@ impl<S: FlushStore + Drop> View for Session<S> {
     ghost names_number = { λ s folder name result. result ≡ number_seen (S.state_of s.store) s.volume folder name };
 
     ghost shows = { λ s number result. result ≡ node_seen (S.state_of s.store) s.volume number };
+
+    ghost reads = { λ s number at old new result. ReadsIn (S.state_of s.store) s.volume number at old new result };
+
+    ghost points = { λ s number result. HasTarget (S.state_of s.store) s.volume number result };
+
+    ghost stretches = { λ s number at most result. HasStretch (S.state_of s.store) s.volume number at most result };
 
     fn node(&self, number: u32) -> Result<Node, Reason> {
         match self.volume().stat(self.store(), number) {
