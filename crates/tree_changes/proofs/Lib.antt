@@ -6,3 +6,9 @@ mod Missing
 mod Parents
 mod Removals
 mod Moved
+mod CopiedBytes
+mod BegunCopies
+mod CopiedOnce
+mod NamesBeside
+mod CopiedOver
+mod CopiedPaths

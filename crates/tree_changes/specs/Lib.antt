@@ -7,3 +7,9 @@ pub mod Files
 pub mod Removing
 pub mod Naming
 pub mod Moving
+pub mod KeptCopies
+pub mod MoreNames
+pub mod Copies
+pub mod CopiedFiles
+pub mod CopiedFolders
+pub mod Copying
