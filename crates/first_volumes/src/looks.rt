@@ -125,6 +125,13 @@ impl<S: FlushStore + Drop> View for FirstVolume<S> {
 
     ghost shows = { λ s number result. IfOk result (λ node. node.number ≡ number) };
 
+    // nor of bytes
+    ghost reads = { λ s number at old new result. ⊤ };
+
+    ghost points = { λ s number result. ⊤ };
+
+    ghost stretches = { λ s number at most result. ⊤ };
+
     fn node(&self, number: u32) -> Result<Node, Reason> {
         node_of(&self.session, number)
     }

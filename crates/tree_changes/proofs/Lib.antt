@@ -8,3 +8,9 @@ mod Removals
 mod Moved
 mod GoneThrough
 mod Emptied
+mod CopiedBytes
+mod BegunCopies
+mod CopiedOnce
+mod NamesBeside
+mod CopiedOver
+mod CopiedPaths

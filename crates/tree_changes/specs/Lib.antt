@@ -9,3 +9,9 @@ pub mod Naming
 pub mod Moving
 pub mod Below
 pub mod Emptying
+pub mod KeptCopies
+pub mod MoreNames
+pub mod Copies
+pub mod CopiedFiles
+pub mod CopiedFolders
+pub mod Copying

@@ -1,6 +1,7 @@
 // What is said of new files, folders and symbolic links.
 
 ghost use Rattle.std.specs.Prelude.{◌≡◌, ◌%◌, ◌<◌};
+ghost use Rattle.tree_changes.specs.Copies.{HasRightsOf};
 ghost use Rattle.tree_changes.specs.Folders.{IsNew};
 
 use flush_store::FlushStore;
@@ -22,7 +23,8 @@ pub fn attributes_with<S: FlushStore + Drop>(opened: &Opened<S>, permissions: u1
 
 /// What is said of a copy of a node in its volume.
 pub fn attributes_of<S: FlushStore + Drop>(opened: &Opened<S>, node: &Node) -> Attributes
-    ensures { result.permissions < 4096 }
+    ensures in_range { result.permissions < 4096 }
+    ensures rights { HasRightsOf result node.now }
 {
     Attributes {
         permissions: node.permissions % 4096,

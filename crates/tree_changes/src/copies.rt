@@ -1,6 +1,15 @@
 // One file or symbolic link is copied.
 
-ghost use Rattle.std.specs.Prelude.{◌≤◌, length};
+ghost use Rattle.std.specs.Prelude.{◌≡◌, ◌≤◌, [], IfOk, MatchResult, OnErr, OnOk, length, true, take, vec_len};
+ghost use Rattle.tree_lines.specs.Answers.{Answers};
+ghost use Rattle.tree_lines.specs.Contents.{bytes_seen};
+ghost use Rattle.tree_lines.specs.declared.reason.Reason.{Reason};
+ghost use Rattle.tree_changes.specs.CopiedFiles.{CopiesFile, LeavesFile};
+ghost use Rattle.tree_changes.specs.Copies.{Copies, CopiesAll, CopiesBytes, CopiesContent, CopiesLink, CopiesNext, IsUncopied};
+ghost use Rattle.tree_changes.specs.Copies.{LeavesBytes, LeavesContent, LeavesCopy, LeavesSome, LeavesStretch, NamesCopy};
+ghost use Rattle.tree_changes.specs.Files.{MtimeIn};
+ghost use Rattle.tree_changes.specs.KeptCopies.{Forgets, Keeps, KeepsSame, LacksRoom, copy_kept, is_kept};
+ghost use Rattle.tree_changes.specs.Paths.{IsRefused};
 
 use crate::attributes::attributes_of;
 use crate::linking::put_name;
@@ -42,7 +51,11 @@ pub struct Copied<'a> {
 
 impl Copying {
     /// Nothing is copied yet.
-    pub fn begin(alloc: Global, is_recursive: bool) -> Result<Copying, AllocError> {
+    pub fn begin(alloc: Global, is_recursive: bool) -> Result<Copying, AllocError>
+        ensures piece { IfOk result (λ copying. vec_len copying.piece ≡ 262144) }
+        ensures none { IfOk result (λ copying. (copying.copied.entries ≡ []) × (copying.sources.entries ≡ [])) }
+        ensures recursive { IfOk result (λ copying. copying.is_recursive ≡ is_recursive) }
+    {
         Ok(Copying {
             piece: vec![in alloc; 0u8; PIECE]?,
             copied: BTreeMap::new(alloc),
@@ -52,7 +65,9 @@ impl Copying {
     }
 
     /// The number of the copy of a node that has several names, if it was copied under another one.
-    fn copy_of(&self, node: &Node) -> Option<u32> {
+    fn copy_of(&self, node: &Node) -> Option<u32>
+        ensures { result ≡ copy_kept self.now node.now }
+    {
         if self.is_recursive && node.links > 1 {
             self.copied.get(&node.number).copied()
         } else {
@@ -61,7 +76,12 @@ impl Copying {
     }
 
     /// Keeps the number of a copy, to link it where its node is met again.
-    fn note(&mut self, node: &Node, number: u32) -> Result<(), AllocError> {
+    fn note(&mut self, node: &Node, number: u32) -> Result<(), AllocError>
+        ensures ok { OnOk result (Keeps self.old self.new node.now number) }
+        ensures err { OnErr result ((is_kept self.old node.now ≡ true) × LacksRoom self.old self.new node.now number) }
+        ensures piece { self.new.piece ≡ self.old.piece }
+        ensures recursive { self.new.is_recursive ≡ self.old.is_recursive }
+    {
         if self.is_recursive && node.links > 1 {
             let _before = self.copied.insert(node.number, number)?;
             let _before = self.sources.insert(number, node.number)?;
@@ -70,7 +90,11 @@ impl Copying {
     }
 
     /// Forgets a copy of which a name is taken by something else: it may have no other, so that it can't be linked.
-    pub fn forget(&mut self, number: u32) {
+    pub fn forget(&mut self, number: u32)
+        ensures forgets { Forgets self.old self.new number }
+        ensures piece { self.new.piece ≡ self.old.piece }
+        ensures recursive { self.new.is_recursive ≡ self.old.is_recursive }
+    {
         if let Some(source) = self.sources.remove(&number) {
             let _number = self.copied.remove(&source);
         }
@@ -79,7 +103,8 @@ impl Copying {
 
 /// The first bytes of a content, as many as stand in its inode's block.
 fn head_of(bytes: &[u8]) -> &[u8]
-    ensures { length result.now ≤ 384 }
+    ensures short { length result.now ≤ 384 }
+    ensures first { result.now ≡ take 384 bytes.now }
 {
     &bytes[..bytes.len().min(HEAD)]
 }
@@ -91,7 +116,13 @@ fn read_from<'p, S: FlushStore + Drop>(
     copied: &Copied,
     at: u64,
     room: &'p mut [u8],
-) -> Result<&'p [u8], Fault> {
+) -> Result<&'p [u8], Fault>
+    ensures few { IfOk result (λ bytes. length bytes.now ≤ length room.old) }
+    ensures read { MatchResult result
+        (λ bytes. bytes_seen (S.state_of opened.now.session.store) opened.now.session.volume copied.now.node.number at (length room.old) ≡ Ok bytes.now)
+        (λ fault. (reason : Reason)
+        × (bytes_seen (S.state_of opened.now.session.store) opened.now.session.volume copied.now.node.number at (length room.old) ≡ Err reason)) }
+{
     match View::read(&opened.session, copied.node.number, at, room) {
         Ok(count) => Ok(front(room, count)),
         Err(reason) => Err(at_bytes(alloc, copied.path, reason)),
@@ -104,9 +135,19 @@ fn copy_stretch<S: FlushStore + Drop>(
     opened: &mut Opened<S>,
     alloc: Global,
     copied: &Copied,
-    (block, at): (u32, u64),
+    place: (u32, u64),
     piece: &mut [u8],
-) -> Result<Option<u64>, Fault> {
+) -> Result<Option<u64>, Fault>
+    ensures types { S.types_of opened.new.session.store ≡ S.types_of opened.old.session.store }
+    ensures folder { opened.new.folder ≡ opened.old.folder }
+    ensures told { opened.new.told ≡ opened.old.told }
+    ensures does { MatchResult result
+        (λ behind. CopiesNext (S.types_of opened.old.session.store) opened.old.folder (length piece.old) copied.now.node.number place.0 place.1
+        (S.state_of opened.old.session.store) (S.state_of opened.new.session.store) opened.old.session.volume opened.new.session.volume behind)
+        (λ fault. LeavesStretch (S.types_of opened.old.session.store) opened.old.folder (length piece.old) copied.now.node.number place.0 place.1
+        (S.state_of opened.old.session.store) (S.state_of opened.new.session.store) opened.old.session.volume opened.new.session.volume) }
+{
+    let (block, at) = place;
     let (source, most) = (copied.node.number, piece.len() as u64);
     let stretch = match View::stretch(&opened.session, source, at, most) {
         Ok(Some(stretch)) => stretch,
@@ -123,21 +164,53 @@ fn copy_stretch<S: FlushStore + Drop>(
     Ok(Some(stretch.at.saturating_add(stretch.length)))
 }
 
-/// Copies all bytes of a file that stand in blocks, behind the first ones, to one that was begun: what lies between stays a hole. One at its end has a last byte.
+/// Copies all bytes of a file that stand in blocks, behind the first ones, to one that was begun, and answers the place behind them: what lies between stays a
+/// hole.
+fn copy_stretches<S: FlushStore + Drop>(
+    opened: &mut Opened<S>,
+    alloc: Global,
+    copied: &Copied,
+    block: u32,
+    piece: &mut [u8],
+) -> Result<u64, Fault>
+    ensures types { S.types_of opened.new.session.store ≡ S.types_of opened.old.session.store }
+    ensures folder { opened.new.folder ≡ opened.old.folder }
+    ensures told { opened.new.told ≡ opened.old.told }
+    ensures does { MatchResult result
+        (λ at. CopiesAll (S.types_of opened.old.session.store) opened.old.folder (length piece.old) copied.now.node block
+        (S.state_of opened.old.session.store) (S.state_of opened.new.session.store) opened.old.session.volume opened.new.session.volume at)
+        (λ fault. LeavesSome (S.types_of opened.old.session.store) opened.old.folder (length piece.old) copied.now.node block
+        (S.state_of opened.old.session.store) (S.state_of opened.new.session.store) opened.old.session.volume opened.new.session.volume) }
+{
+    let mut at = HEAD as u64;
+    for _stretch in 0..copied.node.size {
+        match copy_stretch(opened, alloc, copied, (block, at), piece)? {
+            Some(behind) if behind > at => at = behind,
+            _ => return Ok(at),
+        }
+    }
+    Ok(at)
+}
+
+/// Copies all bytes of a file, behind the first ones, to one that was begun. Holes stay; one at its end has a last byte.
 fn copy_rest<S: FlushStore + Drop>(
     opened: &mut Opened<S>,
     alloc: Global,
     copied: &Copied,
     block: u32,
     piece: &mut [u8],
-) -> Result<(), Fault> {
-    let (mut at, size) = (HEAD as u64, copied.node.size);
-    for _stretch in 0..size {
-        match copy_stretch(opened, alloc, copied, (block, at), piece)? {
-            Some(behind) if behind > at => at = behind,
-            _ => break,
-        }
-    }
+) -> Result<(), Fault>
+    ensures types { S.types_of opened.new.session.store ≡ S.types_of opened.old.session.store }
+    ensures folder { opened.new.folder ≡ opened.old.folder }
+    ensures told { opened.new.told ≡ opened.old.told }
+    ensures does { MatchResult result
+        (λ done. CopiesBytes (S.types_of opened.old.session.store) opened.old.folder (length piece.old) copied.now.node block
+        (S.state_of opened.old.session.store) (S.state_of opened.new.session.store) opened.old.session.volume opened.new.session.volume (Ok tt))
+        (λ fault. LeavesBytes (S.types_of opened.old.session.store) opened.old.folder (length piece.old) copied.now.node block
+        (S.state_of opened.old.session.store) (S.state_of opened.new.session.store) opened.old.session.volume opened.new.session.volume) }
+{
+    let size = copied.node.size;
+    let at = copy_stretches(opened, alloc, copied, block, piece)?;
     if at >= size {
         return Ok(());
     }
@@ -151,7 +224,18 @@ fn finish<S: FlushStore + Drop>(
     copied: &Copied,
     block: u32,
     piece: &mut [u8],
-) -> Result<u32, Fault> {
+) -> Result<u32, Fault>
+    ensures types { S.types_of opened.new.session.store ≡ S.types_of opened.old.session.store }
+    ensures folder { opened.new.folder ≡ opened.old.folder }
+    ensures told { opened.new.told ≡ opened.old.told }
+    ensures does { MatchResult result
+        (λ number. NamesCopy (S.types_of opened.old.session.store) opened.old.folder (length piece.old) copied.now.node block
+        copied.now.place.folder copied.now.place.name.now
+        (S.state_of opened.old.session.store) (S.state_of opened.new.session.store) opened.old.session.volume opened.new.session.volume (Ok number))
+        (λ fault. LeavesCopy (S.types_of opened.old.session.store) opened.old.folder (length piece.old) copied.now.node block
+        copied.now.place.folder copied.now.place.name.now
+        (S.state_of opened.old.session.store) (S.state_of opened.new.session.store) opened.old.session.volume opened.new.session.volume) }
+{
     copy_rest(opened, alloc, copied, block, piece)?;
     let commit = Commit {
         block,
@@ -168,7 +252,18 @@ fn copy_content<S: FlushStore + Drop>(
     alloc: Global,
     copied: &Copied,
     piece: &mut [u8],
-) -> Result<u32, Fault> {
+) -> Result<u32, Fault>
+    ensures types { S.types_of opened.new.session.store ≡ S.types_of opened.old.session.store }
+    ensures folder { opened.new.folder ≡ opened.old.folder }
+    ensures told { opened.new.told ≡ opened.old.told }
+    ensures does { MatchResult result
+        (λ number. CopiesContent (S.types_of opened.old.session.store) opened.old.folder (length piece.old) copied.now.node
+        copied.now.place.folder copied.now.place.name.now
+        (S.state_of opened.old.session.store) (S.state_of opened.new.session.store) opened.old.session.volume opened.new.session.volume number)
+        (λ fault. LeavesContent (S.types_of opened.old.session.store) opened.old.folder (length piece.old) copied.now.node
+        copied.now.place.folder copied.now.place.name.now
+        (S.state_of opened.old.session.store) (S.state_of opened.new.session.store) opened.old.session.volume opened.new.session.volume) }
+{
     let mut head = [0u8; HEAD];
     let head = read_from(opened, alloc, copied, 0, &mut head)?;
     let begin = Begin {
@@ -191,7 +286,18 @@ fn copy_link<S: FlushStore + Drop>(
     opened: &mut Opened<S>,
     alloc: Global,
     copied: &Copied,
-) -> Result<u32, Fault> {
+) -> Result<u32, Fault>
+    ensures types { S.types_of opened.new.session.store ≡ S.types_of opened.old.session.store }
+    ensures folder { opened.new.folder ≡ opened.old.folder }
+    ensures told { opened.new.told ≡ opened.old.told }
+    ensures does { MatchResult result
+        (λ number. CopiesLink (S.types_of opened.old.session.store) opened.old.folder copied.now.node copied.now.place.folder copied.now.place.name.now
+        (S.state_of opened.old.session.store) (S.state_of opened.new.session.store) opened.old.session.volume opened.new.session.volume (Ok number))
+        (λ fault. IsRefused (CopiesLink (S.types_of opened.old.session.store) opened.old.folder copied.now.node
+        copied.now.place.folder copied.now.place.name.now
+        (S.state_of opened.old.session.store) (S.state_of opened.new.session.store) opened.old.session.volume opened.new.session.volume)
+        (S.state_of opened.old.session.store) (S.state_of opened.new.session.store) opened.old.session.volume opened.new.session.volume) }
+{
     let target = match opened.session.target(alloc, copied.node.number) {
         Ok(target) => target,
         Err(reason) => return Err(at_bytes(alloc, copied.path, reason)),
@@ -213,7 +319,21 @@ fn copy_new<S: FlushStore + Drop>(
     alloc: Global,
     copying: &mut Copying,
     copied: &Copied,
-) -> Result<u32, Fault> {
+) -> Result<u32, Fault>
+    ensures types { S.types_of opened.new.session.store ≡ S.types_of opened.old.session.store }
+    ensures folder { opened.new.folder ≡ opened.old.folder }
+    ensures told { opened.new.told ≡ opened.old.told }
+    ensures piece { vec_len copying.new.piece ≡ vec_len copying.old.piece }
+    ensures recursive { copying.new.is_recursive ≡ copying.old.is_recursive }
+    ensures kept { KeepsSame copying.old copying.new }
+    ensures does { MatchResult result
+        (λ number. Copies (S.types_of opened.old.session.store) opened.old.folder (vec_len copying.old.piece) copied.now.node
+        copied.now.place.folder copied.now.place.name.now
+        (S.state_of opened.old.session.store) (S.state_of opened.new.session.store) opened.old.session.volume opened.new.session.volume number)
+        (λ fault. IsUncopied (S.types_of opened.old.session.store) opened.old.folder (vec_len copying.old.piece) copied.now.node
+        copied.now.place.folder copied.now.place.name.now
+        (S.state_of opened.old.session.store) (S.state_of opened.new.session.store) opened.old.session.volume opened.new.session.volume) }
+{
     if copied.node.is_link() {
         copy_link(opened, alloc, copied)
     } else {
@@ -228,7 +348,20 @@ pub fn copy_file<S: FlushStore + Drop>(
     alloc: Global,
     copying: &mut Copying,
     copied: &Copied,
-) -> Result<(), Fault> {
+) -> Result<(), Fault>
+    ensures types { S.types_of opened.new.session.store ≡ S.types_of opened.old.session.store }
+    ensures folder { opened.new.folder ≡ opened.old.folder }
+    ensures told { opened.new.told ≡ opened.old.told }
+    ensures piece { vec_len copying.new.piece ≡ vec_len copying.old.piece }
+    ensures recursive { copying.new.is_recursive ≡ copying.old.is_recursive }
+    ensures does { MatchResult result
+        (λ done. CopiesFile (S.types_of opened.old.session.store) opened.old.folder (vec_len copying.old.piece) copying.old copying.new copied.now.node
+        copied.now.place.folder copied.now.place.name.now
+        (S.state_of opened.old.session.store) (S.state_of opened.new.session.store) opened.old.session.volume opened.new.session.volume)
+        (λ fault. LeavesFile (S.types_of opened.old.session.store) opened.old.folder (vec_len copying.old.piece) copying.old copying.new copied.now.node
+        copied.now.place.folder copied.now.place.name.now
+        (S.state_of opened.old.session.store) (S.state_of opened.new.session.store) opened.old.session.volume opened.new.session.volume) }
+{
     if let Some(number) = copying.copy_of(&copied.node) {
         return put_name(opened, alloc, copied, number);
     }
@@ -246,7 +379,13 @@ pub fn keep_time<S: FlushStore + Drop>(
     alloc: Global,
     copied: &Copied,
     number: u32,
-) -> Result<(), Fault> {
+) -> Result<(), Fault>
+    ensures types { S.types_of opened.new.session.store ≡ S.types_of opened.old.session.store }
+    ensures folder { opened.new.folder ≡ opened.old.folder }
+    ensures told { opened.new.told ≡ opened.old.told }
+    ensures does { Answers (MtimeIn (S.types_of opened.old.session.store) opened.old.folder number copied.now.node.modified
+        (S.state_of opened.old.session.store) (S.state_of opened.new.session.store) opened.old.session.volume opened.new.session.volume) result }
+{
     let mtime = copied.node.modified;
     opened.make(
         alloc,

@@ -1,5 +1,12 @@
 // The word `cp`.
 
+ghost use Rattle.std.specs.Prelude.{◌≡◌, Bool, IfOk, MatchResult, false, length, map, nat_lt, vec_len};
+ghost use Rattle.tree_changes.specs.CopiedFiles.{CopiesOver, IsReplaced, LeavesOver, with_rights_of};
+ghost use Rattle.tree_changes.specs.CopiedFolders.{CopiesFolder, IsBelow, LeavesFolder};
+ghost use Rattle.tree_changes.specs.Copying.{CopiesAt, CopiesPaths, IsLeftAt};
+ghost use Rattle.tree_changes.specs.Moving.{HasGoal};
+ghost use Rattle.tree_changes.specs.Paths.{AtPath};
+
 use crate::attributes::attributes_of;
 use crate::copies::{Copied, Copying, copy_file, keep_time};
 use crate::moving::{goal_path, reason_against};
@@ -15,14 +22,16 @@ use treefs_session::Mkdir;
 const MOST_DEPTH: u32 = 262_209_296;
 
 /// Whether a folder is another one or stands below it.
-fn is_below<V: View>(view: &V, alloc: Global, folder: u32, above: u32) -> Result<bool, Reason> {
+fn is_below<V: View>(view: &V, alloc: Global, folder: u32, above: u32) -> Result<bool, Reason>
+    ensures { IfOk result (IsBelow (V.leads view.now) folder above) }
+{
     let mut number = folder;
     for _folder in 0..MOST_DEPTH {
         if number == above {
             return Ok(true);
         }
         if number == TOP {
-            break;
+            return Ok(false);
         }
         number = View::find(view, alloc, number, b"..", true)?;
     }
@@ -34,7 +43,10 @@ fn replaced<S: FlushStore + Drop>(
     opened: &Opened<S>,
     alloc: Global,
     copied: &Copied,
-) -> Result<Option<Node>, Fault> {
+) -> Result<Option<Node>, Fault>
+    ensures { IfOk result (IsReplaced (S.state_of opened.now.session.store) opened.now.session.volume copied.now.node
+        copied.now.place.folder copied.now.place.name.now copied.now.place.has_slash) }
+{
     let reason = match there(&opened.session, copied.place) {
         Ok(Some(other)) => match reason_against(&copied.node, &other) {
             None => return Ok(Some(other)),
@@ -52,7 +64,18 @@ fn copy_folder<S: FlushStore + Drop>(
     opened: &mut Opened<S>,
     alloc: Global,
     copied: &Copied,
-) -> Result<(u32, bool), Fault> {
+) -> Result<(u32, bool), Fault>
+    ensures types { S.types_of opened.new.session.store ≡ S.types_of opened.old.session.store }
+    ensures folder { opened.new.folder ≡ opened.old.folder }
+    ensures told { opened.new.told ≡ opened.old.told }
+    ensures does { MatchResult result
+        (λ made. CopiesFolder (S.types_of opened.old.session.store) opened.old.folder
+        copied.now.node copied.now.place.folder copied.now.place.name.now copied.now.place.has_slash
+        (S.state_of opened.old.session.store) (S.state_of opened.new.session.store) opened.old.session.volume opened.new.session.volume made.0 made.1)
+        (λ fault. LeavesFolder (S.types_of opened.old.session.store) opened.old.folder
+        copied.now.node copied.now.place.folder copied.now.place.name.now copied.now.place.has_slash
+        (S.state_of opened.old.session.store) (S.state_of opened.new.session.store) opened.old.session.volume opened.new.session.volume) }
+{
     if let Some(other) = replaced(opened, alloc, copied)? {
         return Ok((other.number, false));
     }
@@ -66,7 +89,9 @@ fn copy_folder<S: FlushStore + Drop>(
 }
 
 /// A node with permissions and owner of another one.
-fn with_rights_of(node: Node, other: &Node) -> Node {
+fn with_rights_of(node: Node, other: &Node) -> Node
+    ensures { result ≡ with_rights_of node other.now }
+{
     Node {
         permissions: other.permissions,
         uid: other.uid,
@@ -81,7 +106,20 @@ fn copy_other<S: FlushStore + Drop>(
     alloc: Global,
     copying: &mut Copying,
     copied: &Copied,
-) -> Result<(), Fault> {
+) -> Result<(), Fault>
+    ensures types { S.types_of opened.new.session.store ≡ S.types_of opened.old.session.store }
+    ensures folder { opened.new.folder ≡ opened.old.folder }
+    ensures told { opened.new.told ≡ opened.old.told }
+    ensures piece { vec_len copying.new.piece ≡ vec_len copying.old.piece }
+    ensures recursive { copying.new.is_recursive ≡ copying.old.is_recursive }
+    ensures does { MatchResult result
+        (λ done. CopiesOver (S.types_of opened.old.session.store) opened.old.folder (vec_len copying.old.piece) copying.old copying.new copied.now.node
+        copied.now.place.folder copied.now.place.name.now copied.now.place.has_slash
+        (S.state_of opened.old.session.store) (S.state_of opened.new.session.store) opened.old.session.volume opened.new.session.volume)
+        (λ fault. LeavesOver (S.types_of opened.old.session.store) opened.old.folder (vec_len copying.old.piece) copying.old copying.new copied.now.node
+        copied.now.place.folder copied.now.place.name.now copied.now.place.has_slash
+        (S.state_of opened.old.session.store) (S.state_of opened.new.session.store) opened.old.session.volume opened.new.session.volume) }
+{
     let mut copied = *copied;
     if let Some(other) = replaced(opened, alloc, &copied)? {
         copying.forget(other.number);
@@ -120,9 +158,15 @@ fn copy_met<S: FlushStore + Drop>(
     alloc: Global,
     copying: &mut Copying,
     walk: &mut Walk,
-    (step, to): (&Step, &[u8]),
+    met: (&Step, &[u8]),
     folders: &mut Vec<Option<Into>>,
-) -> Result<(), Fault> {
+) -> Result<(), Fault>
+    ensures types { S.types_of opened.new.session.store ≡ S.types_of opened.old.session.store }
+    ensures folder { opened.new.folder ≡ opened.old.folder }
+    ensures piece { vec_len copying.new.piece ≡ vec_len copying.old.piece }
+    ensures recursive { copying.new.is_recursive ≡ copying.old.is_recursive }
+{
+    let (step, to) = met;
     let Some(Some(folder)) = folders.last() else {
         return Ok(());
     };
@@ -155,9 +199,14 @@ fn copy_met<S: FlushStore + Drop>(
 fn leave_folder<S: FlushStore + Drop>(
     opened: &mut Opened<S>,
     alloc: Global,
-    (node, to): (&Node, &[u8]),
+    left: (&Node, &[u8]),
     folder: Option<Into>,
-) -> Result<(), Fault> {
+) -> Result<(), Fault>
+    ensures types { S.types_of opened.new.session.store ≡ S.types_of opened.old.session.store }
+    ensures folder { opened.new.folder ≡ opened.old.folder }
+    ensures told { opened.new.told ≡ opened.old.told }
+{
+    let (node, to) = left;
     match folder {
         Some(
             Into {
@@ -188,7 +237,12 @@ fn copy_below<S: FlushStore + Drop>(
     copying: &mut Copying,
     copied: &Copied,
     into: Into,
-) -> Result<(), Fault> {
+) -> Result<(), Fault>
+    ensures types { S.types_of opened.new.session.store ≡ S.types_of opened.old.session.store }
+    ensures folder { opened.new.folder ≡ opened.old.folder }
+    ensures piece { vec_len copying.new.piece ≡ vec_len copying.old.piece }
+    ensures recursive { copying.new.is_recursive ≡ copying.old.is_recursive }
+{
     let length = copied.path.len();
     let mut walk = Walk::below(alloc, copied.path, copied.node.number)?;
     walk.leave_out(into.number)?;
@@ -219,7 +273,12 @@ fn copy_tree<S: FlushStore + Drop>(
     alloc: Global,
     copying: &mut Copying,
     copied: &Copied,
-) -> Result<(), Fault> {
+) -> Result<(), Fault>
+    ensures types { S.types_of opened.new.session.store ≡ S.types_of opened.old.session.store }
+    ensures folder { opened.new.folder ≡ opened.old.folder }
+    ensures piece { vec_len copying.new.piece ≡ vec_len copying.old.piece }
+    ensures recursive { copying.new.is_recursive ≡ copying.old.is_recursive }
+{
     let view = &opened.session;
     match is_below(view, alloc, copied.place.folder, copied.node.number) {
         Ok(false) => {}
@@ -236,8 +295,20 @@ fn copy_one<S: FlushStore + Drop>(
     alloc: Global,
     copying: &mut Copying,
     path: &str,
-    (to, goal): (&str, Goal),
-) -> Result<(), Fault> {
+    to: (&str, Goal),
+) -> Result<(), Fault>
+    ensures types { S.types_of opened.new.session.store ≡ S.types_of opened.old.session.store }
+    ensures folder { opened.new.folder ≡ opened.old.folder }
+    ensures piece { vec_len copying.new.piece ≡ vec_len copying.old.piece }
+    ensures recursive { copying.new.is_recursive ≡ copying.old.is_recursive }
+    ensures told { copying.old.is_recursive ≡ false → opened.new.told ≡ opened.old.told }
+    ensures does { copying.old.is_recursive ≡ false → (several : Bool) → HasGoal (S.state_of opened.old.session.store) opened.old.session.volume
+        opened.old.folder to.entry.0.now several to.entry.1 →
+        AtPath (CopiesAt (vec_len copying.old.piece) (S.types_of opened.old.session.store) opened.old.folder to.entry.0.now several)
+        (IsLeftAt (vec_len copying.old.piece) (S.types_of opened.old.session.store) opened.old.folder to.entry.0.now several) path.now
+        (S.state_of opened.old.session.store) (S.state_of opened.new.session.store) opened.old.session.volume opened.new.session.volume result }
+{
+    let (to, goal) = to;
     let is_followed = !copying.is_recursive;
     let node = find(&opened.session, alloc, opened.folder, path, is_followed)?;
     let name = own_name(alloc, path)?;
@@ -264,7 +335,14 @@ pub fn copy<S: FlushStore + Drop>(
     paths: &[&str],
     to: &str,
     is_recursive: bool,
-) -> Result<(), Fault> {
+) -> Result<(), Fault>
+    ensures types { S.types_of opened.new.session.store ≡ S.types_of opened.old.session.store }
+    ensures folder { opened.new.folder ≡ opened.old.folder }
+    ensures does { is_recursive ≡ false →
+        CopiesPaths (S.types_of opened.old.session.store) opened.old.folder to.now (nat_lt 1 (length paths.now)) (map (λ path. path.now) paths.now)
+        opened.old.told opened.new.told
+        (S.state_of opened.old.session.store) (S.state_of opened.new.session.store) opened.old.session.volume opened.new.session.volume result }
+{
     let mut copying = Copying::begin(alloc, is_recursive)?;
     let are_several = paths.len() > 1;
     for path in paths {

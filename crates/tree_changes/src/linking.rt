@@ -1,5 +1,16 @@
 // A copy gets one more name. Where that is another file's it has a name beside its place first, and then is moved there.
 
+ghost use Rattle.std.specs.Prelude.{◌≡◌, IfOk, MatchResult, None, Ok, Result};
+ghost use Rattle.std.specs.String.{string_bytes};
+ghost use Rattle.treefs_model.specs.declared.fault.Fault.{Fault as Why};
+ghost use Rattle.tree_lines.specs.Answers.{Answers};
+ghost use Rattle.tree_lines.specs.Places.{IsThere};
+ghost use Rattle.tree_lines.specs.Trees.{IsThereIn};
+ghost use Rattle.tree_changes.specs.MoreNames.{PutsName};
+ghost use Rattle.tree_changes.specs.Moving.{RenameIn};
+ghost use Rattle.tree_changes.specs.Paths.{IsRefused};
+ghost use Rattle.tree_changes.specs.Removing.{UnlinkIn};
+
 use crate::copies::Copied;
 use flush_store::FlushStore;
 use std::alloc::Global;
@@ -10,7 +21,9 @@ use treefs_session::{Link, Rename, Unlink};
 const MOST_NAMES: u32 = 10_000;
 
 /// A name in a folder that nothing has.
-fn free_name<V: View>(view: &V, alloc: Global, folder: u32) -> Result<String, Reason> {
+fn free_name<V: View>(view: &V, alloc: Global, folder: u32) -> Result<String, Reason>
+    ensures { IfOk result (λ name. IsThere (V.names_number view.now) (V.shows view.now) folder (string_bytes name) None) }
+{
     for number in 0..MOST_NAMES {
         let name = format!(in alloc; ".xnfs-copy-{number}")?;
         let place = Place {
@@ -30,7 +43,9 @@ fn name_beside<S: FlushStore + Drop>(
     opened: &Opened<S>,
     alloc: Global,
     copied: &Copied,
-) -> Result<String, Fault> {
+) -> Result<String, Fault>
+    ensures { IfOk result (λ name. IsThereIn (S.state_of opened.now.session.store) opened.now.session.volume copied.now.place.folder (string_bytes name) None) }
+{
     match free_name(&opened.session, alloc, copied.place.folder) {
         Ok(name) => Ok(name),
         Err(reason) => Err(at_bytes(alloc, copied.to, reason)),
@@ -43,7 +58,14 @@ fn move_to_place<S: FlushStore + Drop>(
     alloc: Global,
     copied: &Copied,
     name: &str,
-) -> Result<(), Fault> {
+) -> Result<(), Fault>
+    ensures types { S.types_of opened.new.session.store ≡ S.types_of opened.old.session.store }
+    ensures folder { opened.new.folder ≡ opened.old.folder }
+    ensures told { opened.new.told ≡ opened.old.told }
+    ensures does { Answers (RenameIn (S.types_of opened.old.session.store) opened.old.folder copied.now.place.folder name.now
+        copied.now.place.folder copied.now.place.name.now
+        (S.state_of opened.old.session.store) (S.state_of opened.new.session.store) opened.old.session.volume opened.new.session.volume) result }
+{
     let rename = Rename {
         directory: copied.place.folder,
         name: name.as_bytes(),
@@ -59,7 +81,13 @@ fn take_back<S: FlushStore + Drop>(
     alloc: Global,
     copied: &Copied,
     name: &str,
-) {
+)
+    ensures types { S.types_of opened.new.session.store ≡ S.types_of opened.old.session.store }
+    ensures folder { opened.new.folder ≡ opened.old.folder }
+    ensures told { opened.new.told ≡ opened.old.told }
+    ensures does { (taken : Result (Unit {0}) Why) × UnlinkIn (S.types_of opened.old.session.store) opened.old.folder copied.now.place.folder name.now
+        (S.state_of opened.old.session.store) (S.state_of opened.new.session.store) opened.old.session.volume opened.new.session.volume taken }
+{
     let unlink = Unlink {
         directory: copied.place.folder,
         name: name.as_bytes(),
@@ -73,7 +101,17 @@ pub fn put_name<S: FlushStore + Drop>(
     alloc: Global,
     copied: &Copied,
     number: u32,
-) -> Result<(), Fault> {
+) -> Result<(), Fault>
+    ensures types { S.types_of opened.new.session.store ≡ S.types_of opened.old.session.store }
+    ensures folder { opened.new.folder ≡ opened.old.folder }
+    ensures told { opened.new.told ≡ opened.old.told }
+    ensures does { MatchResult result
+        (λ done. PutsName (S.types_of opened.old.session.store) opened.old.folder number copied.now.place.folder copied.now.place.name.now
+        (S.state_of opened.old.session.store) (S.state_of opened.new.session.store) opened.old.session.volume opened.new.session.volume (Ok tt))
+        (λ fault. IsRefused (PutsName (S.types_of opened.old.session.store) opened.old.folder number copied.now.place.folder copied.now.place.name.now
+        (S.state_of opened.old.session.store) (S.state_of opened.new.session.store) opened.old.session.volume opened.new.session.volume)
+        (S.state_of opened.old.session.store) (S.state_of opened.new.session.store) opened.old.session.volume opened.new.session.volume) }
+{
     let directory = copied.place.folder;
     let is_there = match there(&opened.session, copied.place) {
         Ok(other) => other.is_some(),

@@ -1,3 +1,4 @@
 mod Answered
 pub mod NamesRead
 pub mod WalkSteps
+mod StandingBytes

@@ -1,5 +1,7 @@
 pub mod Reasons
 pub mod Looks
+pub mod Stretches
+pub mod Contents
 pub mod Places
 pub mod Answers
 pub mod Telling

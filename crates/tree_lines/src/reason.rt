@@ -75,7 +75,9 @@ pub enum Reason {
 }
 
 impl From<AllocError> for Reason {
-    ghost from_gives = { λ error reason. reason ≡ NoMemory };
+    ghost use Rattle.tree_lines.specs.declared.reason.Reason.TheVariants.{NoMemory};
+
+    ghost from_gives = { λ _ reason. reason ≡ NoMemory };
 
     fn from(_error: AllocError) -> Reason {
         Reason::NoMemory

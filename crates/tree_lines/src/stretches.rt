@@ -1,5 +1,12 @@
 // Which bytes of a file of trees stand in blocks, and how many blocks that are.
 
+ghost use Rattle.std.specs.Prelude.{◌≡◌, ◌≢◌, ◌⊎◌, ℕ, ◌<◌, ◌≤◌, MatchOption};
+ghost use Rattle.treefs_format.specs.Leaves.{greatest_size};
+ghost use Rattle.treefs_format.specs.Paths.{leaf_count};
+ghost use Rattle.treefs_lookup.specs.Readable.{readable};
+ghost use Rattle.treefs_model.specs.Reading.{leaf_block};
+ghost use Rattle.tree_lines.specs.Stretches.{IsFirstFrom, IsHole, IsNextStretch, end_before};
+
 use crate::node::Stretch;
 use edit_list::Fs;
 use treefs_format::inodes::CONTENT_LEN;
@@ -9,7 +16,9 @@ use treefs_lookup::{leaf_block, next_leaf, path_blocks};
 use xn_state::Store;
 
 /// The byte behind those of the leaves before one, and of the inode.
-fn end_before(leaf: u32) -> u64 {
+fn end_before(leaf: u32) -> u64
+    ensures { result ≡ end_before leaf }
+{
     if leaf == 0 {
         CONTENT_LEN as u64
     } else {
@@ -18,7 +27,10 @@ fn end_before(leaf: u32) -> u64 {
 }
 
 /// The first byte at or past one that stands in a block, and the leaf behind it.
-fn first_from<S: Store>(store: &S, fs: Fs, inode: u32, at: u64) -> Option<(u64, u32)> {
+fn first_from<S: Store>(store: &S, fs: Fs, inode: u32, at: u64) -> Option<(u64, u32)>
+    ensures { MatchOption result (IsHole (leaf_block (readable (S.state_of store.now) fs.number) inode) at greatest_size)
+        (λ first. IsFirstFrom (leaf_block (readable (S.state_of store.now) fs.number) inode) at first.0 first.1) }
+{
     if at < CONTENT_LEN as u64 {
         return Some((at, 0));
     }
@@ -29,7 +41,13 @@ fn first_from<S: Store>(store: &S, fs: Fs, inode: u32, at: u64) -> Option<(u64, 
 }
 
 /// The first leaf at or past one that is missing, or that begins at or past a byte.
-fn last_from<S: Store>(store: &S, fs: Fs, inode: u32, next: u32, limit: u64) -> u32 {
+fn last_from<S: Store>(store: &S, fs: Fs, inode: u32, next: u32, limit: u64) -> u32
+    ensures past { next ≤ result }
+    ensures few { next ≤ leaf_count → result ≤ leaf_count }
+    ensures there { (leaf : ℕ) → next ≤ leaf → leaf < result → leaf_block (readable (S.state_of store.now) fs.number) inode leaf ≢ 0 }
+    ensures ends { (leaf_count ≤ result) ⊎ ((limit ≤ end_before result)
+        ⊎ (leaf_block (readable (S.state_of store.now) fs.number) inode result ≡ 0)) }
+{
     for leaf in next..LEAVES {
         if end_before(leaf) >= limit || leaf_block(store, fs, inode, leaf) == 0 {
             return leaf;
@@ -42,10 +60,13 @@ fn last_from<S: Store>(store: &S, fs: Fs, inode: u32, next: u32, limit: u64) -> 
 pub fn stretch_of<S: Store>(
     store: &S,
     fs: Fs,
-    (inode, size): (u32, u64),
+    file: (u32, u64),
     at: u64,
     most: u64,
-) -> Option<Stretch> {
+) -> Option<Stretch>
+    ensures { IsNextStretch (leaf_block (readable (S.state_of store.now) fs.number) file.0) file.1 at most result }
+{
+    let (inode, size) = file;
     let (first, next) = first_from(store, fs, inode, at)?;
     let limit = size.min(first.saturating_add(most));
     let end = end_before(last_from(store, fs, inode, next, limit)).min(limit);

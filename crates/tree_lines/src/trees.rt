@@ -1,7 +1,8 @@
 // An open volume of trees is looked at.
 
-ghost use Rattle.std.specs.Prelude.{◌≡◌, ◌++◌, OnOk, map};
-ghost use Rattle.tree_lines.specs.Listing.{ListsFolder, ReadsFolder, live_names};
+ghost use Rattle.std.specs.Prelude.{◌++◌, ◌≡◌, map, OnOk};
+ghost use Rattle.tree_lines.specs.Listing.{ListsFolder, live_names, ReadsFolder};
+ghost use Rattle.tree_lines.specs.Contents.{HasStretch, HasTarget, ReadsIn};
 ghost use Rattle.tree_lines.specs.Looks.{FindsPath, node_seen, number_seen};
 ghost use Rattle.tree_lines.specs.Walks.{entry_of, names_of};
 
@@ -73,6 +74,12 @@ impl<S: FlushStore + Drop> View for Session<S> {
     ghost lists = { λ s folder result. ListsFolder (S.state_of s.store) s.volume folder result };
 
     ghost shows = { λ s number result. result ≡ node_seen (S.state_of s.store) s.volume number };
+
+    ghost reads = { λ s number at old new result. ReadsIn (S.state_of s.store) s.volume number at old new result };
+
+    ghost points = { λ s number result. HasTarget (S.state_of s.store) s.volume number result };
+
+    ghost stretches = { λ s number at most result. HasStretch (S.state_of s.store) s.volume number at most result };
 
     fn node(&self, number: u32) -> Result<Node, Reason> {
         match self.volume().stat(self.store(), number) {
