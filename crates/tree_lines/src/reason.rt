@@ -75,8 +75,6 @@ pub enum Reason {
 }
 
 impl From<AllocError> for Reason {
-    ghost use Rattle.tree_lines.specs.declared.reason.Reason.TheVariants.{NoMemory};
-
     ghost from_gives = { λ _ reason. reason ≡ NoMemory };
 
     fn from(_error: AllocError) -> Reason {
@@ -85,7 +83,7 @@ impl From<AllocError> for Reason {
 }
 
 impl<T: Drop> From<AllocFailed<T>> for Reason {
-    ghost from_gives = { λ error reason. reason ≡ NoMemory };
+    ghost from_gives = { λ _ reason. reason ≡ NoMemory };
 
     fn from(_error: AllocFailed<T>) -> Reason {
         Reason::NoMemory
