@@ -10,14 +10,15 @@
 --     Empties, EmptiesUpTo    all below a folder is removed; or up to a fault that ends the line
 --     RemovesTree, KeepsTree  the same, and then the folder
 --     RemovesAllNamed, KeepsNamed     the same, of what has a name
+--     RemovesAll, KeepsSome   the same, of a path
 use Rattle.std.specs.Prelude.{◌≡◌, ◌⊎◌, ℕ, nat_lt, Bool, false, true, not, ◌&&◌, List, Option, None, Some, Result, Ok, Err}
 use Rattle.xn_model.specs.Lives.{StoreState}
 use Rattle.xn_model.specs.Types.{Types}
 use Rattle.treefs_model.specs.declared.fault.Fault.{Fault}
 use Rattle.treefs.specs.declared.volume.Volume.{Volume}
-use Rattle.tree_lines.specs.Places.{IsFolder}
+use Rattle.tree_lines.specs.Places.{IsFolder, IsOwnName}
 use Rattle.tree_lines.specs.Telling.{EndsLine, Tells, count_of}
-use Rattle.tree_lines.specs.Trees.{ComesIn, IsThereIn}
+use Rattle.tree_lines.specs.Trees.{ComesIn, IsPlaceIn, IsThereIn}
 use Rattle.tree_lines.specs.Walks.{IsUnseen, Met, Outcome, Progress, begun, met_of}
 use Rattle.tree_lines.specs.Walks.Outcome.{Ends, Leaves, Meets, Unseen}
 use Rattle.tree_lines.specs.declared.fault.Fault.{Fault as LineFault}
@@ -29,7 +30,7 @@ use Rattle.tree_lines.specs.declared.walking.Step.{Step}
 use Rattle.tree_changes.specs.Below.{GoesThrough, HasEnded}
 use Rattle.tree_changes.specs.Folders.{RmdirIn}
 use Rattle.tree_changes.specs.Paths.{IsRefused, IsSame}
-use Rattle.tree_changes.specs.Removing.{IsNameKept, RemovesNamed, UnlinkIn}
+use Rattle.tree_changes.specs.Removing.{IsAway, IsNameKept, RemovesNamed, UnlinkIn}
 
 -- behind: whether it is a folder that was left
 abbrev pub TakesName : Types → ℕ → Bool → ℕ → List ℕ → StoreState → StoreState → Volume → Volume → Result (Unit {0}) Fault → Type 0
@@ -116,3 +117,17 @@ KeepsNamed T folder path directory name slash told told' old new volume volume' 
     IsNameKept T folder directory name slash old new volume volume'
     ⊎ ((node : Node) × IsThereIn old volume directory name (Some node) × IsFolder node
     × KeepsTree T folder path node.number directory name told told' old new volume volume')
+
+-- Of a path
+
+-- own: the last name of the path, which is not `.` or `..`; forced: whether it is no fault that nothing is there
+abbrev pub RemovesAll : Bool → Types → ℕ → List ℕ → Told → Told → StoreState → StoreState → Volume → Volume → Type 0
+RemovesAll forced T folder path told told' old new volume volume' =
+    ((forced ≡ true) × IsAway old volume folder path × IsSame old new volume volume' × (told' ≡ told))
+    ⊎ ((own : List ℕ) × (directory : ℕ) × (name : List ℕ) × (slash : Bool) × IsOwnName path own × IsPlaceIn old volume folder path directory name slash
+    × RemovesAllNamed forced T folder path directory name slash told told' old new volume volume')
+
+abbrev pub KeepsSome : Types → ℕ → List ℕ → Told → Told → StoreState → StoreState → Volume → Volume → Type 0
+KeepsSome T folder path told told' old new volume volume' = IsSame old new volume volume'
+    ⊎ ((own : List ℕ) × (directory : ℕ) × (name : List ℕ) × (slash : Bool) × IsOwnName path own × IsPlaceIn old volume folder path directory name slash
+    × KeepsNamed T folder path directory name slash told told' old new volume volume')

@@ -2,7 +2,7 @@
 
 ghost use Rattle.std.specs.Prelude.{◌≡◌, ◌↔◌, Err, IfErr, IfOk, IsTrue, MatchResult, false, map, nat_lt, true};
 ghost use Rattle.treefs_model.specs.declared.fault.Fault.{Fault as Why};
-ghost use Rattle.tree_changes.specs.Emptying.{Empties, EmptiesUpTo, KeepsNamed, KeepsTree, RemovesAllNamed, RemovesTree};
+ghost use Rattle.tree_changes.specs.Emptying.{Empties, EmptiesUpTo, KeepsNamed, KeepsSome, KeepsTree, RemovesAll, RemovesAllNamed, RemovesTree};
 ghost use Rattle.tree_changes.specs.Emptying.{TakesIfAny, TakesName, TellsLeft, step_visited};
 ghost use Rattle.tree_changes.specs.Folders.{RmdirIn};
 ghost use Rattle.tree_changes.specs.Paths.{AtPath, DoesPaths, IsSame};
@@ -272,6 +272,11 @@ fn remove_one<S: FlushStore + Drop>(
         AtPath (Removes how.is_forced (S.types_of opened.old.session.store) opened.old.folder)
         (IsKept (S.types_of opened.old.session.store) opened.old.folder) path.now
         (S.state_of opened.old.session.store) (S.state_of opened.new.session.store) opened.old.session.volume opened.new.session.volume result }
+    ensures all { how.is_recursive ≡ true → MatchResult result
+        (λ done. RemovesAll how.is_forced (S.types_of opened.old.session.store) opened.old.folder path.now opened.old.told opened.new.told
+        (S.state_of opened.old.session.store) (S.state_of opened.new.session.store) opened.old.session.volume opened.new.session.volume)
+        (λ fault. KeepsSome (S.types_of opened.old.session.store) opened.old.folder path.now opened.old.told opened.new.told
+        (S.state_of opened.old.session.store) (S.state_of opened.new.session.store) opened.old.session.volume opened.new.session.volume) }
 {
     match place_of(&opened.session, alloc, opened.folder, path) {
         Ok(place) => {
