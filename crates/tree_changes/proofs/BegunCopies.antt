@@ -15,7 +15,8 @@ use Rattle.treefs_session.specs.declared.put.Put.{Put}
 use Rattle.tree_lines.specs.Answers.{Answers}
 use Rattle.tree_lines.specs.Contents.{HasTarget, bytes_seen, target_seen}
 use Rattle.tree_lines.specs.declared.node.Node.{Node}
-use Rattle.tree_changes.specs.Copies.{BeginIn, CommitIn, Copies, CopiesAs, CopiesBytes, CopiesContent, CopiesLink, GivesUpCopy, HasRightsOf, IsLinkPut, IsUncopied}
+use Rattle.tree_changes.specs.Copies.{BeginIn, CommitIn, Copies, CopiesAs, CopiesBytes, CopiesContent, CopiesLink, GivesUpCopy, HasRightsOf, IsLinkPut}
+use Rattle.tree_changes.specs.Copies.{IsUncopied}
 use Rattle.tree_changes.specs.Copies.{IsUncopiedAs, LeavesContent, LeavesCopy, NamesCopy}
 use Rattle.tree_changes.specs.Paths.{IsRefused, IsSame}
 use Rattle.tree_changes.proofs.CopiedBytes.{as_first}

@@ -66,7 +66,8 @@ module _ (T types : Types) (top folder : ℕ) (types_are : types ≡ T) (folder_
   pub one_more : (behind : ℕ) → CopiesNext types folder most node.number block at middle new between volume' (Some behind) →
       CopiesStretches T top most node.number block 384 behind old new volume volume'
   one_more behind next =
-      let so = as_first (λ t n. CopiesNext t n most node.number block at middle new between volume' (Some behind)) T types top folder types_are folder_is next in
+      let so = as_first (λ t n. CopiesNext t n most node.number block at middle new between volume' (Some behind)) T types top folder types_are
+      folder_is next in
       subst (λ (b : ℕ). CopiesStretches T top most node.number block 384 b old new volume volume') (sym so.2) (copies so.0 middle between before so.1)
 
   goes_up : (behind : ℕ) → CopiesNext types folder most node.number block at middle new between volume' (Some behind) → at < behind

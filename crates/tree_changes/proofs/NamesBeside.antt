@@ -111,5 +111,6 @@ module _ {E : Type 0} (T types : Types) (top folder : ℕ) (types_are : types �
           (λ told. IsRefused (PutsName T top number directory name old new volume volume') old new volume volume')
       as_back (Ok done) err does = cc
       as_back (Err told) err does =
-          let unlink = as_first (λ t n. UnlinkIn t n directory beside refused new then volume' taken.0) types types1 folder folder1 types1_are folder1_is taken.1 in
+          let unlink = as_first (λ t n. UnlinkIn t n directory beside refused new then volume' taken.0) types types1 folder folder1 types1_are
+          folder1_is taken.1 in
           inr (does.0, over (Err does.0) (refused, then, taken.0, does.1, unlink))

@@ -129,8 +129,8 @@ fn read_from<'p, S: FlushStore + Drop>(
     }
 }
 
-/// Copies the bytes of a file that stand in blocks from one on, at most a piece, to an inode that was begun, and answers the place behind them; nothing where only
-/// a hole follows, or the file ends.
+/// Copies the bytes of a file that stand in blocks from one on, at most a piece, to an inode that was begun, and answers the place behind them; nothing where
+/// only a hole follows, or the file ends.
 fn copy_stretch<S: FlushStore + Drop>(
     opened: &mut Opened<S>,
     alloc: Global,

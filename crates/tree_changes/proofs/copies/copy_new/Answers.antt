@@ -16,7 +16,8 @@ returns-else-is_link-clause-does g c =
     let other : copied.node.kind ≡ SymbolicLink → ⊥ = λ is. let wrong = c.if-is_link.ensures.1 is in cc in
     let same : length c.deref_mut.result.now ≡ vec_len c.args.copying.now.piece = c.deref_mut.ensures.len in
     let does = subst (λ (most : ℕ). MatchResult c.copy_content.result
-    (λ number. CopiesContent T before.folder most copied.node copied.place.folder copied.place.name.now old new before.session.volume after.session.volume number)
+    (λ number. CopiesContent T before.folder most copied.node copied.place.folder copied.place.name.now old new before.session.volume after.session.volume
+    number)
     (λ told. LeavesContent T before.folder most copied.node copied.place.folder copied.place.name.now old new before.session.volume after.session.volume)) same
     c.copy_content.ensures.does in
     content_copied T before.folder (vec_len c.args.copying.now.piece) copied.node copied.place.folder copied.place.name.now old new before.session.volume

@@ -13,7 +13,8 @@ returns-then-first-end g c =
     omega (arith, c.min-limit.ensures, c.saturating_add.ensures) in
     let end_is = c.min-end.ensures in
     stretch blocks c.args.file.1 c.args.at c.args.most first.first first.next c.min-limit.result last.result c.min-end.result first.ensures limit_is
-    last.ensures.past (last.ensures.few first.ensures.few) last.ensures.there last.ensures.ends (omega (arith, end_is, c.end_before.ensures)) c.if-first-end.true
+    last.ensures.past (last.ensures.few first.ensures.few) last.ensures.there last.ensures.ends (omega (arith, end_is, c.end_before.ensures))
+    c.if-first-end.true
 
 pub returns-else-first-end : goal.returns-else-first-end
 returns-else-first-end g c =
@@ -24,4 +25,5 @@ returns-else-first-end g c =
     omega (arith, c.min-limit.ensures, c.saturating_add.ensures) in
     let end_is = c.min-end.ensures in
     no_stretch blocks c.args.file.1 c.args.at c.args.most first.first first.next c.min-limit.result last.result c.min-end.result first.ensures limit_is
-    last.ensures.past (last.ensures.few first.ensures.few) last.ensures.there last.ensures.ends (omega (arith, end_is, c.end_before.ensures)) c.if-first-end.false
+    last.ensures.past (last.ensures.few first.ensures.few) last.ensures.there last.ensures.ends (omega (arith, end_is, c.end_before.ensures))
+    c.if-first-end.false
