@@ -1,4 +1,4 @@
-use Rattle.std.proofs.Common.{◌≡◌, ◌∙◌, ℕ, List, Result, Ok, Err, refl, subst, sym}
+use Rattle.std.proofs.Common.{◌∙◌, ℕ, List, Result, Ok, Err, refl, subst, sym}
 use Rattle.std.specs.Prelude.{IsErr, IsOk}
 use Rattle.tree_puts.specs.Actions.{Calls}
 use Rattle.tree_puts.specs.Actions.Action.{renames}
