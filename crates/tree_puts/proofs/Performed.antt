@@ -1,6 +1,6 @@
 -- Actions that were run by a plan: none, one call, and those of two plans one behind the other.
 use Rattle.std.proofs.Common.{◌≡◌, ℕ, Bool, false, true, List, [], ◌∷◌, ◌++◌, Result, Ok, Err, inl, inr, refl, subst}
-use Rattle.std.specs.Prelude.{IsErr, MatchBool}
+use Rattle.std.specs.Prelude.{IsErr, IsOk, MatchBool}
 use Rattle.xn_model.specs.Lives.{StoreState}
 use Rattle.xn_model.specs.Types.{Types}
 use Rattle.treefs_model.specs.declared.fault.Fault.{Fault}
@@ -96,6 +96,12 @@ action_done {T} {folder} {old} {new} {volume} {volume'} action does =
 
 -- what comes first failed, and then something else is done
 
+pub stays_done : {T : Types} {folder : ℕ} {old new : StoreState} {volume volume' : Volume} {A E : Type 0} (First : Result A E → List Action → Type 0)
+    (Else : List Action → Type 0) (result : Result A E) → IsOk result → Performs T folder (First result) old new volume volume' →
+    Performs T folder (OrElse First Else result) old new volume volume'
+stays_done First Else (Ok answer) is done = done
+stays_done First Else (Err fault) is done = absurd (let wrong : ⊥ = cc in wrong)
+
 pub else_done : {T types : Types} {top folder : ℕ} {old middle new : StoreState} {volume between volume' : Volume} {A E : Type 0}
     (First : Result A E → List Action → Type 0) (Else : List Action → Type 0) (result : Result A E) → IsErr result →
     Performs T top (First result) old middle volume between → types ≡ T → folder ≡ top → Performs types folder Else middle new between volume' →
@@ -103,6 +109,12 @@ pub else_done : {T types : Types} {top folder : ℕ} {old middle new : StoreStat
 else_done First Else (Ok answer) is first types_are folder_is next = absurd (let wrong : ⊥ = cc in wrong)
 else_done First Else (Err fault) is first types_are folder_is next =
     both_done first types_are folder_is next (λ before behind one other. (before, behind, refl, one, other))
+
+-- a call whose answer isn't told
+pub some_answer : {A E : Type 0} (call : Result A Fault → Action) (result : Result A E) (actions : List Action) → Calls call result actions →
+    (answer : Result A Fault) × (actions ≡ call answer ∷ [])
+some_answer call (Ok made) actions called = (Ok made, called)
+some_answer call (Err told) actions called = (Err called.0, called.1)
 
 -- an inode is given up, or nothing is done any more
 pub gave_up : (T : Types) (folder : ℕ) (old new : StoreState) (volume volume' : Volume) (block : ℕ) {Same : Type 0} (broken : Bool) →

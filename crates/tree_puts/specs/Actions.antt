@@ -16,7 +16,10 @@ use Rattle.treefs_model.specs.declared.fault.Fault.{Fault}
 use Rattle.treefs_byte_plans.specs.declared.attributes.Attributes.{Attributes as Settings}
 use Rattle.treefs.specs.Committing.{CommitDoes}
 use Rattle.treefs.specs.Creating.{BeginDoes}
+use Rattle.treefs.specs.Linking.{LinkDoes}
+use Rattle.treefs.specs.Renaming.{RenameDoes}
 use Rattle.treefs.specs.Setting.{AttributesDoes, MtimeDoes}
+use Rattle.treefs.specs.Unlinking.{UnlinkDoes}
 use Rattle.treefs.specs.declared.attributes.Attributes.{Attributes}
 use Rattle.treefs.specs.declared.volume.Volume.{Volume}
 use Rattle.treefs_session.specs.Freeing.{GivesUp, MakesFreely}
@@ -36,6 +39,12 @@ pub data Action : Type 0 where
   gives_up : ℕ → Result Bool Fault → Action
   -- a whole file or symbolic link is put under a name in a folder, in the place of what has it
   puts : ℕ → List ℕ → Kind → Attributes → List ℕ → Result ℕ Fault → Action
+  -- a number gets one more name in a folder
+  links : ℕ → ℕ → List ℕ → Result (Unit {0}) Fault → Action
+  -- a name in a folder becomes another one there
+  renames : ℕ → List ℕ → List ℕ → Result (Unit {0}) Fault → Action
+  -- a name in a folder is taken
+  unlinks : ℕ → List ℕ → Result (Unit {0}) Fault → Action
   -- the time of a number is set
   sets_time : ℕ → ℤ → Result (Unit {0}) Fault → Action
   -- permissions, owner and time of a number are set
@@ -60,6 +69,15 @@ Does T folder (names block directory name result) old new volume volume' =
 Does T folder (gives_up block result) old new volume volume' = GivesUp T block old new volume volume' result
 Does T folder (puts directory name kind attributes bytes result) old new volume volume' =
     (put : Put) × IsPut put directory name kind attributes bytes × PutDoes T (folder ∷ []) put old new volume volume' result
+Does T folder (links number directory name result) old new volume volume' =
+    MakesFreely (λ old new volume volume' result. LinkDoes T old new volume volume' number directory name result) T (folder ∷ [])
+    old new volume volume' result
+Does T folder (renames directory name new_name result) old new volume volume' =
+    MakesFreely (λ old new volume volume' result. RenameDoes T old new volume volume' directory name directory new_name result) T (folder ∷ [])
+    old new volume volume' result
+Does T folder (unlinks directory name result) old new volume volume' =
+    MakesFreely (λ old new volume volume' result. UnlinkDoes T old new volume volume' directory name result) T (folder ∷ [])
+    old new volume volume' result
 Does T folder (sets_time number mtime result) old new volume volume' =
     MakesFreely (λ old new volume volume' result. MtimeDoes old volume volume' number mtime result × (new ≡ old)) T (folder ∷ [])
     old new volume volume' result

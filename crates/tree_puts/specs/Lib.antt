@@ -3,3 +3,4 @@ pub mod Places
 pub mod Holes
 pub mod Arriving
 pub mod Linked
+pub mod Linking

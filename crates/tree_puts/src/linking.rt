@@ -1,7 +1,9 @@
 // A file of the system with several names is put once, and gets the others as links.
 
-ghost use Rattle.std.specs.Prelude.{IfOk, None, string_bytes};
+ghost use Rattle.std.specs.Prelude.{◌≡◌, IfOk, None, string_bytes};
 ghost use Rattle.tree_lines.specs.Trees.{IsThereIn};
+ghost use Rattle.tree_puts.specs.Actions.{Performs};
+ghost use Rattle.tree_puts.specs.Linking.{LinksAs, MovesToPlace, TakesBack};
 
 use crate::arriving::{Arriving, Goods};
 use flush_store::FlushStore;
@@ -45,7 +47,13 @@ fn link_as<H: Host, S: FlushStore + Drop>(
     goods: Goods,
     number: u32,
     name: &[u8],
-) -> Result<(), Fault> {
+) -> Result<(), Fault>
+    ensures types { S.types_of volume.new.session.store ≡ S.types_of volume.old.session.store }
+    ensures folder { volume.new.folder ≡ volume.old.folder }
+    ensures told { volume.new.told ≡ volume.old.told }
+    ensures does { Performs (S.types_of volume.old.session.store) volume.old.folder (LinksAs goods.entry number name.now result)
+        (S.state_of volume.old.session.store) (S.state_of volume.new.session.store) volume.old.session.volume volume.new.session.volume }
+{
     let link = Link {
         number,
         directory: goods.place.folder,
@@ -60,7 +68,13 @@ pub fn move_to_place<H: Host, S: FlushStore + Drop>(
     volume: &mut Opened<S>,
     goods: Goods,
     name: &str,
-) -> Result<(), Fault> {
+) -> Result<(), Fault>
+    ensures types { S.types_of volume.new.session.store ≡ S.types_of volume.old.session.store }
+    ensures folder { volume.new.folder ≡ volume.old.folder }
+    ensures told { volume.new.told ≡ volume.old.told }
+    ensures does { Performs (S.types_of volume.old.session.store) volume.old.folder (MovesToPlace goods.entry name.now result)
+        (S.state_of volume.old.session.store) (S.state_of volume.new.session.store) volume.old.session.volume volume.new.session.volume }
+{
     let directory = goods.place.folder;
     let rename = Rename {
         directory,
@@ -81,7 +95,13 @@ pub fn take_back<H: Host, S: FlushStore + Drop>(
     volume: &mut Opened<S>,
     goods: Goods,
     name: &str,
-) {
+)
+    ensures types { S.types_of volume.new.session.store ≡ S.types_of volume.old.session.store }
+    ensures folder { volume.new.folder ≡ volume.old.folder }
+    ensures told { volume.new.told ≡ volume.old.told }
+    ensures does { Performs (S.types_of volume.old.session.store) volume.old.folder (TakesBack goods.entry name.now)
+        (S.state_of volume.old.session.store) (S.state_of volume.new.session.store) volume.old.session.volume volume.new.session.volume }
+{
     if volume.is_broken() {
         return;
     }
