@@ -1,6 +1,6 @@
 // What words ask of a volume that they look at.
 
-ghost use Rattle.std.specs.Prelude.{Bool, List, MatchResult, Option, Result, ℕ};
+ghost use Rattle.std.specs.Prelude.{ℕ, Bool, List, MatchResult, Option, Result};
 ghost use Rattle.tree_lines.specs.Walks.{names_of};
 ghost use Rattle.tree_lines.specs.declared.node.Node.{Node};
 ghost use Rattle.tree_lines.specs.declared.node.Stretch.{Stretch};
