@@ -1,7 +1,8 @@
 //! What the words of `xnfs` on volumes of trees have in common: faults, how names are shown, what is asked of any volume, where paths lead, an open volume,
 //! and walks below a folder.
 //!
-//! Of paths it is proved where they lead, and of an open volume which calls its session makes; of the other functions that they are safe and end.
+//! Of paths it is proved where they lead, of looks what they answer, of walks what they come to, and of an open volume which calls its session makes; of the
+//! other functions that they are safe and end.
 //! May touch: memory.
 #![tactic(auto)]
 

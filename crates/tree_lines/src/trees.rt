@@ -1,8 +1,8 @@
 // An open volume of trees is looked at.
 
 ghost use Rattle.std.specs.Prelude.{◌≡◌, ◌++◌, OnOk, map};
-ghost use Rattle.tree_lines.specs.Listing.{ListsFolder, ReadsFolder, live_names};
 ghost use Rattle.tree_lines.specs.Contents.{HasStretch, HasTarget, ReadsIn};
+ghost use Rattle.tree_lines.specs.Listing.{ListsFolder, ReadsFolder, live_names};
 ghost use Rattle.tree_lines.specs.Looks.{FindsPath, node_seen, number_seen};
 ghost use Rattle.tree_lines.specs.Walks.{entry_of, names_of};
 

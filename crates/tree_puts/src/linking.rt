@@ -118,7 +118,10 @@ fn link_over<H: Host, S: FlushStore + Drop>(
     volume: &mut Opened<S>,
     goods: Goods,
     number: u32,
-) -> Result<(), Fault> {
+) -> Result<(), Fault>
+    ensures types { S.types_of volume.new.session.store ≡ S.types_of volume.old.session.store }
+    ensures folder { volume.new.folder ≡ volume.old.folder }
+{
     let beside = free_name(arriving, volume, goods)?;
     link_as(arriving, volume, goods, number, beside.as_bytes())?;
     move_to_place(arriving, volume, goods, beside.as_str())
@@ -130,7 +133,10 @@ pub fn link<H: Host, S: FlushStore + Drop>(
     volume: &mut Opened<S>,
     goods: Goods,
     number: u32,
-) -> Result<(), Fault> {
+) -> Result<(), Fault>
+    ensures types { S.types_of volume.new.session.store ≡ S.types_of volume.old.session.store }
+    ensures folder { volume.new.folder ≡ volume.old.folder }
+{
     let node = match there(&volume.session, goods.place) {
         Ok(node) => node,
         Err(reason) => return Err(at_bytes(arriving.alloc, goods.path, reason)),

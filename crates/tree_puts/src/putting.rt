@@ -1,5 +1,7 @@
 // The word `put`: files and folders of the system that are brought in.
 
+ghost use Rattle.std.specs.Prelude.{◌≡◌};
+
 use crate::arriving::{Arriving, Goods, room_for_piece};
 use crate::pieces::{OpenFile, Stream};
 use crate::tree_in::{enter, enter_there, is_done, put_folder, put_regular};
@@ -67,7 +69,10 @@ fn put_stream<H: Host, S: FlushStore + Drop>(
     putting: &Putting,
     piece: &mut [u8],
     input: &mut impl Read,
-) -> Result<(), Fault> {
+) -> Result<(), Fault>
+    ensures types { S.types_of volume.new.session.store ≡ S.types_of volume.old.session.store }
+    ensures folder { volume.new.folder ≡ volume.old.folder }
+{
     let alloc = arriving.alloc;
     if putting.has_lines {
         return Err(at(alloc, "-", Reason::Lines));
@@ -97,10 +102,14 @@ fn put_one_file<H: Host, S: FlushStore + Drop>(
     arriving: &mut Arriving<H>,
     volume: &mut Opened<S>,
     goal: Goal,
-    (source, attributes): (&str, &Attributes),
+    from: (&str, &Attributes),
     path: &str,
     piece: &mut [u8],
-) -> Result<(), Fault> {
+) -> Result<(), Fault>
+    ensures types { S.types_of volume.new.session.store ≡ S.types_of volume.old.session.store }
+    ensures folder { volume.new.folder ≡ volume.old.folder }
+{
+    let (source, attributes) = from;
     let alloc = arriving.alloc;
     let name = own_name(source);
     let place = goal.place(name.as_bytes());
@@ -134,10 +143,14 @@ fn put_one_folder<H: Host, S: FlushStore + Drop>(
     arriving: &mut Arriving<H>,
     volume: &mut Opened<S>,
     goal: Goal,
-    (source, attributes): (&str, &Attributes),
+    from: (&str, &Attributes),
     path: &str,
     piece: &mut [u8],
-) -> Result<(), Fault> {
+) -> Result<(), Fault>
+    ensures types { S.types_of volume.new.session.store ≡ S.types_of volume.old.session.store }
+    ensures folder { volume.new.folder ≡ volume.old.folder }
+{
+    let (source, attributes) = from;
     let alloc = arriving.alloc;
     let name = own_name(source);
     let frame = match goal {
@@ -171,7 +184,10 @@ fn put_one<H: Host, S: FlushStore + Drop>(
     putting: &Putting,
     source: &str,
     piece: &mut [u8],
-) -> Result<(), Fault> {
+) -> Result<(), Fault>
+    ensures types { S.types_of volume.new.session.store ≡ S.types_of volume.old.session.store }
+    ensures folder { volume.new.folder ≡ volume.old.folder }
+{
     let alloc = arriving.alloc;
     if source.is_empty() {
         return Err(Fault::Volume(Reason::Empty));
@@ -196,7 +212,10 @@ fn put_all<H: Host, S: FlushStore + Drop>(
     volume: &mut Opened<S>,
     putting: &Putting,
     input: &mut impl Read,
-) -> Result<(), Fault> {
+) -> Result<(), Fault>
+    ensures types { S.types_of volume.new.session.store ≡ S.types_of volume.old.session.store }
+    ensures folder { volume.new.folder ≡ volume.old.folder }
+{
     let mut piece = room_for_piece(arriving.alloc)?;
     if putting.sources.len() > 1 {
         let (folder, path) = (volume.folder, putting.path);
@@ -222,7 +241,10 @@ pub fn put<H: Host, S: FlushStore + Drop>(
     alloc: Global,
     putting: Putting,
     input: &mut impl Read,
-) -> Result<(), Fault> {
+) -> Result<(), Fault>
+    ensures types { S.types_of volume.new.session.store ≡ S.types_of volume.old.session.store }
+    ensures folder { volume.new.folder ≡ volume.old.folder }
+{
     let disk = match putting.disk {
         Some(path) => host.attributes_through(path).ok(),
         None => None,

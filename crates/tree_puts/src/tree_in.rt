@@ -1,5 +1,7 @@
 // A folder of the system with all below it is brought in.
 
+ghost use Rattle.std.specs.Prelude.{◌≡◌};
+
 use crate::arriving::{Arriving, Goods};
 use crate::linking::link;
 use crate::pieces::OpenFile;
@@ -40,7 +42,10 @@ fn names_of<H: Host, S: FlushStore + Drop>(
     arriving: &mut Arriving<H>,
     volume: &mut Opened<S>,
     source: &str,
-) -> Result<Vec<String>, Fault> {
+) -> Result<Vec<String>, Fault>
+    ensures types { S.types_of volume.new.session.store ≡ S.types_of volume.old.session.store }
+    ensures folder { volume.new.folder ≡ volume.old.folder }
+{
     let alloc = arriving.alloc;
     let found = match arriving.host.names(alloc, source) {
         Ok(found) => found,
@@ -68,7 +73,10 @@ fn folder_at<H: Host, S: FlushStore + Drop>(
     arriving: &mut Arriving<H>,
     volume: &mut Opened<S>,
     goods: Goods,
-) -> Result<(u32, AtEnd), Fault> {
+) -> Result<(u32, AtEnd), Fault>
+    ensures types { S.types_of volume.new.session.store ≡ S.types_of volume.old.session.store }
+    ensures folder { volume.new.folder ≡ volume.old.folder }
+{
     let alloc = arriving.alloc;
     match there(&volume.session, goods.place) {
         Ok(Some(node)) if node.is_folder() => return Ok((node.number, AtEnd::All)),
@@ -91,7 +99,10 @@ pub fn enter<H: Host, S: FlushStore + Drop>(
     arriving: &mut Arriving<H>,
     volume: &mut Opened<S>,
     goods: Goods,
-) -> Result<Frame, Fault> {
+) -> Result<Frame, Fault>
+    ensures types { S.types_of volume.new.session.store ≡ S.types_of volume.old.session.store }
+    ensures folder { volume.new.folder ≡ volume.old.folder }
+{
     let waiting = names_of(arriving, volume, goods.source)?;
     let (number, at_end) = folder_at(arriving, volume, goods)?;
     Ok(Frame {
@@ -108,10 +119,14 @@ pub fn enter<H: Host, S: FlushStore + Drop>(
 pub fn enter_there<H: Host, S: FlushStore + Drop>(
     arriving: &mut Arriving<H>,
     volume: &mut Opened<S>,
-    (source, attributes): (&str, &Attributes),
+    from: (&str, &Attributes),
     path: &[u8],
     number: u32,
-) -> Result<Frame, Fault> {
+) -> Result<Frame, Fault>
+    ensures types { S.types_of volume.new.session.store ≡ S.types_of volume.old.session.store }
+    ensures folder { volume.new.folder ≡ volume.old.folder }
+{
+    let (source, attributes) = from;
     Ok(Frame {
         waiting: names_of(arriving, volume, source)?,
         source: String::from_str(arriving.alloc, source)?,
@@ -127,7 +142,10 @@ fn settle<H: Host, S: FlushStore + Drop>(
     arriving: &mut Arriving<H>,
     volume: &mut Opened<S>,
     frame: &Frame,
-) -> Result<(), Fault> {
+) -> Result<(), Fault>
+    ensures types { S.types_of volume.new.session.store ≡ S.types_of volume.old.session.store }
+    ensures folder { volume.new.folder ≡ volume.old.folder }
+{
     match frame.at_end {
         AtEnd::Nothing => Ok(()),
         AtEnd::Time => arriving.set_time(
@@ -145,7 +163,10 @@ pub fn is_done<H: Host, S: FlushStore + Drop>(
     arriving: &mut Arriving<H>,
     volume: &mut Opened<S>,
     goods: Goods,
-) -> Result<bool, Fault> {
+) -> Result<bool, Fault>
+    ensures types { S.types_of volume.new.session.store ≡ S.types_of volume.old.session.store }
+    ensures folder { volume.new.folder ≡ volume.old.folder }
+{
     if let Some(disk) = &arriving.disk
         && disk.is_same(goods.attributes)
     {
@@ -171,7 +192,10 @@ pub fn put_regular<H: Host, S: FlushStore + Drop>(
     goods: Goods,
     file: H::File,
     piece: &mut [u8],
-) -> Result<(), Fault> {
+) -> Result<(), Fault>
+    ensures types { S.types_of volume.new.session.store ≡ S.types_of volume.old.session.store }
+    ensures folder { volume.new.folder ≡ volume.old.folder }
+{
     let mut incoming: OpenFile<H> = OpenFile { file };
     let number = arriving.put_file(volume, goods, &mut incoming, piece)?;
     arriving.note(goods.attributes, number)?;
@@ -184,7 +208,10 @@ fn put_file_below<H: Host, S: FlushStore + Drop>(
     volume: &mut Opened<S>,
     goods: Goods,
     piece: &mut [u8],
-) -> Result<(), Fault> {
+) -> Result<(), Fault>
+    ensures types { S.types_of volume.new.session.store ≡ S.types_of volume.old.session.store }
+    ensures folder { volume.new.folder ≡ volume.old.folder }
+{
     if is_done(arriving, volume, goods)? {
         return Ok(());
     }
@@ -211,7 +238,10 @@ fn put_name<H: Host, S: FlushStore + Drop>(
     frame: (&str, &[u8], u32),
     name: &str,
     piece: &mut [u8],
-) -> Result<Option<Frame>, Fault> {
+) -> Result<Option<Frame>, Fault>
+    ensures types { S.types_of volume.new.session.store ≡ S.types_of volume.old.session.store }
+    ensures folder { volume.new.folder ≡ volume.old.folder }
+{
     let alloc = arriving.alloc;
     let (source, path, folder) = frame;
     let source = joined(alloc, source, name)?;
@@ -255,7 +285,10 @@ fn go_on<H: Host, S: FlushStore + Drop>(
     arriving: &mut Arriving<H>,
     volume: &mut Opened<S>,
     fault: Fault,
-) -> Result<(), Fault> {
+) -> Result<(), Fault>
+    ensures types { S.types_of volume.new.session.store ≡ S.types_of volume.old.session.store }
+    ensures folder { volume.new.folder ≡ volume.old.folder }
+{
     if is_full(&fault) {
         return Err(fault);
     }
@@ -268,7 +301,10 @@ fn step<H: Host, S: FlushStore + Drop>(
     volume: &mut Opened<S>,
     frames: &mut Vec<Frame>,
     piece: &mut [u8],
-) -> Result<(), Fault> {
+) -> Result<(), Fault>
+    ensures types { S.types_of volume.new.session.store ≡ S.types_of volume.old.session.store }
+    ensures folder { volume.new.folder ≡ volume.old.folder }
+{
     let Some(mut frame) = frames.pop() else {
         return Ok(());
     };
@@ -295,10 +331,13 @@ pub fn put_folder<H: Host, S: FlushStore + Drop>(
     alloc: Global,
     frame: Frame,
     piece: &mut [u8],
-) -> Result<(), Fault> {
+) -> Result<(), Fault>
+    ensures types { S.types_of volume.new.session.store ≡ S.types_of volume.old.session.store }
+    ensures folder { volume.new.folder ≡ volume.old.folder }
+{
     let mut frames = Vec::new(alloc);
     frames.push(frame)?;
-    for _ in 0..u64::MAX {
+    for _step in 0..u64::MAX {
         if frames.is_empty() {
             break;
         }

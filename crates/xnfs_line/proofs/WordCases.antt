@@ -18,9 +18,11 @@ pub link_does : {E : Type 0} (T : Types) (folder : ℕ) (word : Word) (target pa
     (λ fault. IsUnlinked T folder linking target.now path.now old new volume volume') →
     WordDoes T folder word told told' old new volume volume' result
 link_does T folder word target path symbolic linking is kind told told' old new volume volume' result same does =
-    subst (λ (w : Word). WordDoes T folder w told told' old new volume volume' result) (sym is)
-    (same, subst (λ (l : Linking). MatchResult result (λ done. Links T folder l target.now path.now old new volume volume')
-    (λ fault. IsUnlinked T folder l target.now path.now old new volume volume')) kind does)
+    subst (λ (w : Word). WordDoes T folder w told told' old new volume volume' result) (sym is) (
+      same,
+      subst (λ (l : Linking). MatchResult result (λ done. Links T folder l target.now path.now old new volume volume')
+          (λ fault. IsUnlinked T folder l target.now path.now old new volume volume')) kind does,
+    )
 
 -- lazy: of the shell; looks: whether a word only looks
 

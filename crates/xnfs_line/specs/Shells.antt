@@ -9,7 +9,8 @@
 --     ShellLineDoes     what a line does: its word, or nothing; status 0 comes only where the word was done and nothing left out
 --     NextLineDoes      the next line is done, if there is one
 --     ShellRuns         what some lines do, one behind the other, each at its own time
-use Rattle.std.specs.Prelude.{◌≡◌, ◌⊎◌, ℕ, ℤ, max, Bool, false, true, ◌||◌, List, [], ◌∷◌, length, OnOk, Option, Result, Ok, MatchBool, MatchOption, MatchResult}
+use Rattle.std.specs.Prelude.{◌≡◌, ◌⊎◌, ℕ, ℤ, max, Bool, false, true, ◌||◌, List, [], ◌∷◌, length}
+use Rattle.std.specs.Prelude.{OnOk, Option, Result, Ok, MatchBool, MatchOption, MatchResult}
 use Rattle.xn_model.specs.Lives.{StoreState}
 use Rattle.xn_model.specs.Types.{Types}
 use Rattle.flush_store.specs.Written.{AllWritten}

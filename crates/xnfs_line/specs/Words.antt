@@ -14,6 +14,7 @@ use Rattle.xn_model.specs.Types.{Types}
 use Rattle.treefs.specs.declared.volume.Volume.{Volume}
 use Rattle.tree_lines.specs.declared.told.Told.{Told}
 use Rattle.tree_changes.specs.Attributes.{IsSet, IsUnset}
+use Rattle.tree_changes.specs.Copying.{CopiesPaths}
 use Rattle.tree_changes.specs.Files.{IsUnsized, IsUntouched, Sizes, Touches}
 use Rattle.tree_changes.specs.Folders.{GivesUpFolder, IsFolderKept}
 use Rattle.tree_changes.specs.Making.{IsLeftUnmade, Makes}
@@ -28,7 +29,8 @@ use Rattle.tree_changes.specs.declared.owners.Owners.{Owners}
 use Rattle.tree_changes.specs.declared.setting.Setting.{Setting}
 use Rattle.tree_changes.specs.declared.setting.Setting.TheVariants as setting
 use Rattle.xnfs_words.specs.declared.word.Word.{Word}
-use Rattle.xnfs_words.specs.declared.word.Word.TheVariants.{Cat, ChangeMode, ChangeOwner, Check, Copy, DiskUsage, Find, FreeSpace, Get, Link, List as ListFolders}
+use Rattle.xnfs_words.specs.declared.word.Word.TheVariants.{Cat, ChangeMode, ChangeOwner, Check, Copy, DiskUsage, Find}
+use Rattle.xnfs_words.specs.declared.word.Word.TheVariants.{FreeSpace, Get, Link, List as ListFolders}
 use Rattle.xnfs_words.specs.declared.word.Word.TheVariants.{MakeFolder, Move, Put, ReadLink, Remove, RemoveFolder, Stat, Touch, Tree, Truncate}
 
 abbrev pub IsUndone : {E : Type 0} → Told → Told → StoreState → StoreState → Volume → Volume → Result (Unit {0}) E → Type 0
@@ -62,10 +64,12 @@ TimesDo T folder paths true told told' old new volume volume' result =
     IsUndone told told' old new volume volume' result
     ⊎ ((time : ℤ) × DoesPaths (Touches (Some time) T folder) (IsUntouched (Some time) T folder) paths told told' old new volume volume' result)
 
--- what `put` and `cp` do is not said; a word that only looks does nothing
+-- what `put` does, and `cp` below folders, is not said; a word that only looks does nothing
 abbrev pub NamesDo : {E : Type 0} → Types → ℕ → Word → Told → Told → StoreState → StoreState → Volume → Volume → Result (Unit {0}) E → Type 0
 NamesDo T folder (Put sources path) told told' old new volume volume' result = Unit
-NamesDo T folder (Copy paths to recursive) told told' old new volume volume' result = Unit
+NamesDo T folder (Copy paths to recursive) told told' old new volume volume' result =
+    recursive ≡ false →
+    CopiesPaths T folder to.now (nat_lt 1 (length paths.items)) (map (λ path. path.now) paths.items) told told' old new volume volume' result
 NamesDo T folder (Move paths to) told told' old new volume volume' result =
     DoesPaths (Moves T folder to.now (nat_lt 1 (length paths.items))) (IsUnmoved T folder to.now (nat_lt 1 (length paths.items)))
     (map (λ path. path.now) paths.items) told told' old new volume volume' result

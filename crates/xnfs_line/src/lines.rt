@@ -159,8 +159,8 @@ fn run_opened<H: Host, S: FlushStore + Drop>(
     Ok(status)
 }
 
-/// Looks at a volume of trees before it is opened to be changed, and answers the store, and whether the volume is to be mended though it was closed. It stays as
-/// it is where it is damaged: the fault is `Faults`. `check --repair` may mend it, and prints what it will mend; its faults are those of `look_to_repair`.
+/// Looks at a volume of trees before it is opened to be changed, and answers the store, and whether the volume is to be mended though it was closed. It stays
+/// as it is where it is damaged: the fault is `Faults`. `check --repair` may mend it, and prints what it will mend; its faults are those of `look_to_repair`.
 fn look_before<S: FlushStore + Drop>(
     alloc: Global,
     volume: (S, BlockTypes),
@@ -183,8 +183,8 @@ fn look_before<S: FlushStore + Drop>(
     }
 }
 
-/// Closes a volume behind what a word did on it, and answers that with the store: all is on the disk then. After a failure of the disk nothing more is written, so
-/// that its fault is the one that is told.
+/// Closes a volume behind what a word did on it, and answers that with the store: all is on the disk then. After a failure of the disk nothing more is
+/// written, so that its fault is the one that is told.
 fn close_behind<S: FlushStore + Drop>(
     alloc: Global,
     opened: Opened<S>,
@@ -216,8 +216,9 @@ fn close_behind<S: FlushStore + Drop>(
     }
 }
 
-/// Does what a word asks for on a volume of trees that is not damaged, mended where a crash left it or a repair is asked for, and closes that. Answers the status,
-/// or the fault that ended the word, with the store: all that was done is on the disk then. The fault is that of an opening or a closing, or of a disk that fails.
+/// Does what a word asks for on a volume of trees that is not damaged, mended where a crash left it or a repair is asked for, and closes that. Answers the
+/// status, or the fault that ended the word, with the store: all that was done is on the disk then. The fault is that of an opening or a closing, or of a disk
+/// that fails.
 fn change_trees<H: Host, S: FlushStore + Drop>(
     outside: (&H, &impl Clock),
     alloc: Global,
@@ -259,8 +260,15 @@ fn run_disk<H: Host, S: FlushStore + Drop>(
         }
         VolumeKind::Trees(types) => {
             let volume = (store, types, system);
-            let (done, _store) =
-                change_trees((host, clock), alloc, volume, asked, input, out, err)?;
+            let (done, _store) = change_trees(
+                (host, clock),
+                alloc,
+                volume,
+                asked,
+                input,
+                out,
+                err,
+            )?;
             done
         }
         VolumeKind::First => look_at_first(host, alloc, store, asked, out, err),

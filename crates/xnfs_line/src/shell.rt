@@ -201,10 +201,7 @@ fn print_folder<S: FlushStore + Drop>(
 fn is_of_shell(word: &Word) -> bool
     ensures { result ≡ of_shell word.now }
 {
-    matches!(
-        word,
-        Word::ChangeFolder { .. } | Word::Folder | Word::Sync
-    )
+    matches!(word, Word::ChangeFolder { .. } | Word::Folder | Word::Sync)
 }
 
 /// Does what a word asks for that is no word of shells alone. What it changed is on the disk then, but where the shell is lazy.
@@ -485,7 +482,8 @@ fn tell_too_long((image, number): (&str, u64), err: &mut impl Write) -> Ended {
     Ended::TooLong
 }
 
-/// Does the next line of a shell, and answers how it ended; nothing at the end of its input. A fault is that of a stream or of the clock, before anything is done.
+/// Does the next line of a shell, and answers how it ended; nothing at the end of its input. A fault is that of a stream or of the clock, before anything is
+/// done.
 fn run_next<H: Host, S: FlushStore + Drop>(
     outside: (&H, &impl Clock),
     opened: &mut Opened<S>,
@@ -533,8 +531,7 @@ pub fn run_shell<H: Host, S: FlushStore + Drop>(
 {
     let mut status = DONE;
     for number in 1..u64::MAX {
-        let Some(ended) = run_next(outside, opened, alloc, (shell, number), input, out, err)?
-        else {
+        let Some(ended) = run_next(outside, opened, alloc, (shell, number), input, out, err)? else {
             return Ok(status);
         };
         let _ = err.flush();

@@ -19,10 +19,10 @@ returns g c =
         first.told,
         before.told,
         ran.result,
-        subst (λ folder. ShellWordDoes T lazy first.folder folder c.args.word.now first.told before.told old (g.S.Store.state_of after.session.store) first.session.volume
-            after.session.volume ran.result) (sym c.tell_ended.ensures.folder)
-            (subst (λ s. ShellWordDoes T lazy first.folder before.folder c.args.word.now first.told before.told old (g.S.Store.state_of s.store) first.session.volume s.volume
-            ran.result) (sym c.tell_ended.ensures.session) ran.ensures.does),
+        subst (λ folder. ShellWordDoes T lazy first.folder folder c.args.word.now first.told before.told old (g.S.Store.state_of after.session.store)
+            first.session.volume after.session.volume ran.result) (sym c.tell_ended.ensures.folder)
+            (subst (λ s. ShellWordDoes T lazy first.folder before.folder c.args.word.now first.told before.told old (g.S.Store.state_of s.store)
+            first.session.volume s.volume ran.result) (sym c.tell_ended.ensures.session) ran.ensures.does),
         c.tell_ended.ensures.ended,
       );
     }

@@ -21,8 +21,7 @@ loop-number-preserved g c =
 -- and then a stream fails
 pub returns-in_err-flush-clause-does : goal.returns-in_err-flush-clause-does
 returns-in_err-flush-clause-does g c =
-    let greatest : c.max-status.result ≡ max c.loop-number.status (ended_status c.in-Some.ended) = search rules in
-    (
+    let greatest : c.max-status.result ≡ max c.loop-number.status (ended_status c.in-Some.ended) = search rules in (
       c.max-status.result,
       one_more _ _ c.loop-number.invariant.types _ _ _ _ _ _ _ _ _ _ _ c.loop-number.invariant.runs c.in_ok-ended.field-0 c.in-Some.ended
           c.max-status.result c.in-Some.is greatest c.in_ok-ended.ensures.does,
@@ -32,8 +31,7 @@ returns-in_err-flush-clause-does g c =
 -- no further line is read
 pub returns-then-not-goes_on-clause-does : goal.returns-then-not-goes_on-clause-does
 returns-then-not-goes_on-clause-does g c =
-    let greatest : c.max-status.result ≡ max c.loop-number.status (ended_status c.in-Some.ended) = search rules in
-    (
+    let greatest : c.max-status.result ≡ max c.loop-number.status (ended_status c.in-Some.ended) = search rules in (
       c.max-status.result,
       one_more _ _ c.loop-number.invariant.types _ _ _ _ _ _ _ _ _ _ _ c.loop-number.invariant.runs c.in_ok-ended.field-0 c.in-Some.ended
           c.max-status.result c.in-Some.is greatest c.in_ok-ended.ensures.does,

@@ -8,8 +8,7 @@ use Rattle.xnfs_line.proofs.shell.run_volume_word.Goals as goal
 -- what it left stays
 pub returns-then-shell-clause-does : goal.returns-then-shell-clause-does
 returns-then-shell-clause-does g c =
-    let ran = c.run_word-done in
-    (
+    let ran = c.run_word-done in (
       ran.result,
       g.S.Store.state_of ran.new.opened.session.store,
       ran.new.opened.session.volume,
@@ -30,8 +29,7 @@ returns-clause-does g c =
     let T = g.S.Store.types_of first.session.store in
     let state = g.S.Store.state_of before.session.store in
     let lazy : c.args.asked.1.is_lazy ≡ false = search rules in
-    let looks : only_looks c.args.asked.0.now ≡ false = search rules in
-    (
+    let looks : only_looks c.args.asked.0.now ≡ false = search rules in (
       ran.result,
       state,
       before.session.volume,
