@@ -47,6 +47,8 @@ RUN_IMAGES, SUBSETS = 200, 6
 KILLED, CRASHED = ("checkout_1", "checkout_2", "documents_1", "documents_2", "odd_1"), ("checkout_3", "checkout_4", "documents_3", "documents_4", "odd_2")
 # What a killed `get` leaves beside the file that it writes, and the modes of what it has made and not finished.
 TWIN, OWN_FILE, OWN_FOLDER = re.compile(r"(.+)\.new\d+"), 0o600, 0o700
+# A name of more bytes has no room for what stands behind the name beside it, which is cut for that.
+UNCUT = 240
 # What stands in the place of what a changed copy changes.
 CHANGES = ["bytes", "bytes", "bytes", "mode", "time", "link", "hard", "holes", "moved aside"]
 # The changes after which each file is still one, so that `get` can replace it.
@@ -386,14 +388,25 @@ def prepare(folder, case):
         subprocess.run(["cp", "-a", case.old, "out"], cwd=folder, check=True)
 
 
+def written_beside(tree, start):
+    """The path of the file or link of a tree that begins so and beside which a `get` writes: this path itself, or one whose last name is too long to be kept whole."""
+    if tree.kind(start) in ("file", "link"):
+        return start
+    for path, _ in tree.walk():
+        if path.startswith(start) and "/" not in path[len(start):] and len(os.fsencode(path.rpartition("/")[2])) > UNCUT and tree.kind(path) in ("file", "link"):
+            return path
+    return None
+
+
 def without_twins(top, after):
     """The tree of a target but for what a `get` has not finished, and what is odd about the modes of that."""
     tree, wrong = tree_of(top), []
     for path, number in list(tree.walk()):
         twin = TWIN.fullmatch(path)
-        if twin and after.at(path) is None and after.kind(twin[1]) in ("file", "link"):
+        beside = written_beside(after, twin[1]) if twin and after.at(path) is None else None
+        if beside:
             thing = tree.things[number]
-            if thing[0] == "file" and thing[2] not in (OWN_FILE, after.things[after.at(twin[1])][-1]):
+            if thing[0] == "file" and thing[2] not in (OWN_FILE, after.things[after.at(beside)][-1]):
                 wrong.append(f"{path} has mode {thing[2]:o}")
             tree.take(path)
     return tree, wrong
