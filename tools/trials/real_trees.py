@@ -153,13 +153,15 @@ def free_blocks(folder):
 
 def is_all_freed(folder, name, free, names):
     """That after `rm -r` as many blocks are free as before, but for those that lead to the numbers of files, and that these are taken again."""
-    left = free_blocks(folder)
-    line(folder, "disk", "put", name, "/")
-    line(folder, "disk", "cp", "-r", f"/{name}", "/copied")
-    line(folder, "disk", "rm", "-r", f"/{name}", "/copied")
+    left = []
+    for _ in range(2):
+        line(folder, "disk", "put", name, "/")
+        line(folder, "disk", "cp", "-r", f"/{name}", "/copied")
+        line(folder, "disk", "rm", "-r", f"/{name}", "/copied")
+        left.append(free_blocks(folder))
     checked(folder)
-    if not free - names // 20 - 20 <= left == free_blocks(folder):
-        raise Wrong(name, "of", free, "free blocks rm -r leaves", left, "and then", free_blocks(folder))
+    if not free - names // 20 - 20 <= left[0] == left[1]:
+        raise Wrong(name, "of", free, "free blocks rm -r leaves", left[0], "and then", left[1])
 
 
 def whole_tree(folder, name, size, rng):
