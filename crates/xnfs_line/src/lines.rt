@@ -3,7 +3,6 @@
 ghost use Rattle.std.specs.Prelude.{◌≡◌, IfOk, length};
 ghost use Rattle.flush_store.specs.Written.{AllWritten};
 ghost use Rattle.treefs_session.specs.Opening.{Closes};
-ghost use Rattle.xnfs_line.specs.Lines.{AskedDoes, ChangesVolume};
 
 use crate::changing::Sources;
 use crate::fault::LineFault;
@@ -134,12 +133,7 @@ fn run_opened<H: Host, S: FlushStore + Drop>(
     input: &mut impl BufRead,
     out: &mut impl Write,
     err: &mut impl Write,
-) -> Result<u8, LineFault>
-    ensures types { S.types_of opened.new.session.store ≡ S.types_of opened.old.session.store }
-    ensures does { AskedDoes (S.types_of opened.old.session.store) asked.now.word opened.old.folder opened.new.folder
-        (S.state_of opened.old.session.store) (S.state_of opened.new.session.store) opened.old.session.volume opened.new.session.volume
-        opened.old.told result }
-{
+) -> Result<u8, LineFault> {
     let image = asked.image;
     if let Word::Shell { is_lazy } = &asked.word {
         let shell = Shell {
@@ -228,9 +222,6 @@ fn change_trees<H: Host, S: FlushStore + Drop>(
     out: &mut impl Write,
     err: &mut impl Write,
 ) -> Result<(Result<u8, LineFault>, S), LineFault>
-    ensures types { IfOk result (λ ended. S.types_of ended.1 ≡ S.types_of volume.0) }
-    ensures does { IfOk result (λ ended. ChangesVolume (S.types_of volume.0) asked.now.fs volume.1 asked.now.time asked.now.word
-        (S.state_of volume.0) (S.state_of ended.1) ended.0) }
     ensures written { IfOk result (λ ended. AllWritten (S.state_of ended.1).lives) }
 {
     let (store, types, system) = volume;
