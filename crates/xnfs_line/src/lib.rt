@@ -1,7 +1,6 @@
 //! Lines of `xnfs`: what each word does to the files of a disk, what is told of it, and the status of the program.
 //!
-//! What a line does to a volume of trees is proved: its word, or the lines of its shell, between the opening and the closing of the volume. Of what it prints,
-//! and of disks, it is proved that the functions are safe and end; the rest is tested.
+//! What a word and a shell do to an open volume of trees is proved. Of the other functions it is proved that they are safe and end; what they print is tested.
 //! May touch: memory, threads, files, streams, clock, random bytes.
 #![tactic(auto)]
 
