@@ -14,3 +14,5 @@ mod CopiedOnce
 mod NamesBeside
 mod CopiedOver
 mod CopiedPaths
+mod PartsCut
+mod Moments

@@ -2,6 +2,11 @@ pub mod Paths
 pub mod Folders
 pub mod Making
 pub mod Modes
+pub mod Numbers
+pub mod ModeTexts
+pub mod OwnerTexts
+pub mod Cuts
+pub mod DateTexts
 pub mod Attributes
 pub mod Files
 pub mod Removing

@@ -9,12 +9,14 @@
 mod attributes;
 mod copies;
 mod copying;
+mod cuts;
 mod dates;
 mod folders;
 mod linking;
 mod modes;
 mod moving;
 mod naming;
+mod numbers;
 mod owners;
 mod removing;
 mod setting;

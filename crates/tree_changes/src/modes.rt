@@ -1,7 +1,12 @@
 // Modes as they are told on a line.
 
-ghost use Rattle.std.specs.Prelude.{◌≡◌};
+ghost use Rattle.std.specs.Prelude.{◌≡◌, ◌∷◌, IfOk, MatchOption, None, false, option_copied, option_map};
+ghost use Rattle.std.specs.Str.Parse.{digits_value};
+ghost use Rattle.tree_changes.specs.ModeTexts.{IsModeTold, IsOctal, bits_named, clause_behind, clauses_told, doing_named, mask_named, mode_parts, parts_in};
+ghost use Rattle.tree_changes.specs.ModeTexts.{rights_behind};
 ghost use Rattle.tree_changes.specs.Modes.{clause_applied, mode_applied};
+
+use crate::numbers::read_number;
 
 use std::alloc::{AllocError, Global};
 
@@ -33,7 +38,9 @@ pub struct Modes {
 }
 
 /// The bits of those whom a letter names.
-fn mask_of(letter: u8) -> Option<u16> {
+fn mask_of(letter: u8) -> Option<u16>
+    ensures { result ≡ mask_named letter }
+{
     match letter {
         b'u' => Some(0o4700),
         b'g' => Some(0o2070),
@@ -44,7 +51,9 @@ fn mask_of(letter: u8) -> Option<u16> {
 }
 
 /// What a sign stands for.
-fn doing_of(sign: u8) -> Option<Doing> {
+fn doing_of(sign: u8) -> Option<Doing>
+    ensures { result ≡ doing_named sign }
+{
     match sign {
         b'+' => Some(Doing::Add),
         b'-' => Some(Doing::Take),
@@ -54,7 +63,9 @@ fn doing_of(sign: u8) -> Option<Doing> {
 }
 
 /// The bits of a right.
-fn bits_of(letter: u8) -> Option<u16> {
+fn bits_of(letter: u8) -> Option<u16>
+    ensures { result ≡ bits_named letter }
+{
     match letter {
         b'r' => Some(0o444),
         b'w' => Some(0o222),
@@ -66,54 +77,78 @@ fn bits_of(letter: u8) -> Option<u16> {
 }
 
 /// The rights behind the sign of a clause: their bits, and whether `X` is among them.
-fn read_rights(letters: &[u8]) -> Option<(u16, bool)> {
+fn read_rights(letters: &[u8]) -> Option<(u16, bool)>
+    ensures { result ≡ rights_behind 0 false letters.now }
+{
     let (mut bits, mut is_large) = (0u16, false);
-    for letter in letters {
+    let mut rest = letters;
+    while let [letter, behind @ ..] = rest {
         if *letter == b'X' {
             is_large = true;
         } else {
             bits |= bits_of(*letter)?;
         }
+        rest = behind;
     }
     Some((bits, is_large))
 }
 
-/// Where the sign of a clause stands, and what it stands for.
-fn sign_in(clause: &[u8]) -> Option<(usize, Doing)> {
-    for (at, letter) in clause.iter().enumerate() {
+/// Reads a clause.
+fn read_clause(clause: &[u8]) -> Option<Clause>
+    ensures { result ≡ clause_behind None clause.now }
+{
+    let mut mask = None;
+    let mut rest = clause;
+    while let [letter, behind @ ..] = rest {
         if let Some(doing) = doing_of(*letter) {
-            return Some((at, doing));
+            let (bits, is_large) = read_rights(behind)?;
+            return Some(Clause {
+                doing,
+                mask: mask.unwrap_or(0o7777),
+                bits,
+                is_large,
+            });
         }
+        mask = Some(mask.unwrap_or(0) | mask_of(*letter)?);
+        rest = behind;
     }
     None
 }
 
-/// Reads a clause.
-fn read_clause(clause: &[u8]) -> Option<Clause> {
-    let (at, doing) = sign_in(clause)?;
-    let mut mask = 0u16;
-    for letter in clause.get(..at)? {
-        mask |= mask_of(*letter)?;
+/// The first part of a text that commas cut, and what stands behind the comma, where there is one.
+fn first_part(text: &str) -> (&str, Option<&str>)
+    ensures { mode_parts text.now ≡ result.0.now ∷ parts_in (option_copied result.1) }
+{
+    match text.split_once(',') {
+        Some((part, rest)) => (part, Some(rest)),
+        None => (text, None),
     }
-    if at == 0 {
-        mask = 0o7777;
+}
+
+/// Reads clauses with commas between them. `Err` comes only for want of memory.
+fn read_clauses(alloc: Global, text: &str) -> Result<Option<Vec<Clause>>, AllocError>
+    ensures { IfOk result (λ read. option_map (λ clauses. clauses.items) read ≡ clauses_told (mode_parts text.now)) }
+{
+    let mut clauses = Vec::new(alloc);
+    let mut rest = Some(text);
+    while let Some(text) = rest {
+        let (part, behind) = first_part(text);
+        match read_clause(part.as_bytes()) {
+            Some(clause) => clauses.push(clause)?,
+            None => return Ok(None),
+        }
+        rest = behind;
     }
-    let (bits, is_large) = read_rights(clause.get(at.saturating_add(1)..)?)?;
-    Some(Clause {
-        doing,
-        mask,
-        bits,
-        is_large,
-    })
+    Ok(Some(clauses))
 }
 
 /// Reads octal digits of permissions, with any zeros before them.
-fn read_octal(text: &str) -> Option<u16> {
-    let bits = u16::from_str_radix(text, 8).ok()?;
-    if bits < 0o10000 && !text.starts_with('+') {
-        Some(bits)
-    } else {
-        None
+fn read_octal(text: &str) -> Option<u16>
+    ensures { MatchOption result (¬ IsOctal text.now) (λ bits. IsOctal text.now × (bits ≡ digits_value 8 text.now)) }
+{
+    match read_number(text, 8) {
+        Some(bits) if bits < 0o10000 => Some(bits as u16),
+        _ => None,
     }
 }
 
@@ -136,18 +171,22 @@ impl Clause {
 impl Modes {
     /// Reads a mode in octal, or clauses with commas between them: letters of `ugoa`, one of `+-=`, letters of `rwxXst`. `None` where the text is neither;
     /// `Err` comes only for want of memory.
-    pub fn read(alloc: Global, text: &str) -> Result<Option<Modes>, AllocError> {
-        let mut clauses = Vec::new(alloc);
-        let octal = read_octal(text);
-        if octal.is_none() {
-            for clause in text.as_bytes().split(|byte| *byte == b',') {
-                match read_clause(clause) {
-                    Some(clause) => clauses.push(clause)?,
-                    None => return Ok(None),
-                }
-            }
+    pub fn read(alloc: Global, text: &str) -> Result<Option<Modes>, AllocError>
+        ensures { IfOk result (IsModeTold text.now) }
+    {
+        if let Some(bits) = read_octal(text) {
+            return Ok(Some(Modes {
+                octal: Some(bits),
+                clauses: Vec::new(alloc),
+            }));
         }
-        Ok(Some(Modes { octal, clauses }))
+        match read_clauses(alloc, text)? {
+            Some(clauses) => Ok(Some(Modes {
+                octal: None,
+                clauses,
+            })),
+            None => Ok(None),
+        }
     }
 
     /// The permissions of something that has these, a folder or something else.

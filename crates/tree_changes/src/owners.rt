@@ -2,7 +2,9 @@
 
 ghost use Rattle.std.specs.Prelude.{◌≡◌};
 ghost use Rattle.tree_changes.specs.Attributes.{owner_of};
+ghost use Rattle.tree_changes.specs.OwnerTexts.{IsOwnersTold, IsPartTold};
 
+use crate::numbers::read_number;
 use tree_lines::Node;
 use treefs_byte_plans::Owner;
 
@@ -14,32 +16,32 @@ pub struct Owners {
 }
 
 /// A number, or nothing where there is no text. `None` where the text is neither.
-fn read_part(text: &str) -> Option<Option<u32>> {
+fn read_part(text: &str) -> Option<Option<u32>>
+    ensures { IsPartTold text.now result }
+{
     if text.is_empty() {
         return Some(None);
     }
-    if text.bytes().all(|byte| byte.is_ascii_digit()) {
-        Some(Some(text.parse::<u32>().ok()?))
-    } else {
-        None
+    match read_number(text, 10) {
+        Some(number) => Some(Some(number)),
+        None => None,
     }
 }
 
 impl Owners {
     /// Reads `USER`, `USER:GROUP` or `:GROUP`, all of them numbers. `None` where the text is none of these.
-    pub fn read(text: &str) -> Option<Owners> {
+    pub fn read(text: &str) -> Option<Owners>
+        ensures { IsOwnersTold text.now result }
+    {
         let (user, group) = match text.split_once(':') {
             Some(parts) => parts,
             None => (text, ""),
         };
-        let owners = Owners {
-            uid: read_part(user)?,
-            gid: read_part(group)?,
-        };
-        if owners.uid.is_none() && owners.gid.is_none() {
-            return None;
+        match (read_part(user), read_part(group)) {
+            (Some(None), Some(None)) => None,
+            (Some(uid), Some(gid)) => Some(Owners { uid, gid }),
+            _ => None,
         }
-        Some(owners)
     }
 
     /// Who owns a node from then on.
