@@ -52,13 +52,13 @@ abbrev pub texts : List (Bor (List ℕ)) → List (List ℕ)
 texts paths = map (λ path. path.now) paths
 
 module _ (paths : List (Bor (List ℕ))) (place : ℕ) (default : Bor (List ℕ)) (within : place < length paths) where
-  one_more : take (place + 1) (texts paths) ≡ take place (texts paths) ++ (get_or paths place default).now ∷ []
+  pub one_more : take (place + 1) (texts paths) ≡ take place (texts paths) ++ (get_or paths place default).now ∷ []
   one_more =
       let there : place < length (texts paths) = rw length-map within in
       let next : get_or (texts paths) place [] ≡ (get_or paths place default).now = get_or-map (λ path. path.now) paths place default [] within in
       rw (take_more (texts paths) place [] there, next)
 
-  parts : texts paths ≡ take place (texts paths) ++ (get_or paths place default).now ∷ drop (place + 1) (texts paths)
+  pub parts : texts paths ≡ take place (texts paths) ++ (get_or paths place default).now ∷ drop (place + 1) (texts paths)
   parts =
       let there : place < length (texts paths) = rw length-map within in
       let next : get_or (texts paths) place [] ≡ (get_or paths place default).now = get_or-map (λ path. path.now) paths place default [] within in

@@ -12,6 +12,7 @@ use Rattle.tree_lines.specs.Telling.{count_of}
 use Rattle.tree_lines.specs.Trees.{ComesIn}
 use Rattle.tree_lines.specs.Walks.{IsUnseen, Met, Progress, begun}
 use Rattle.tree_lines.specs.Walks.Outcome.{Ends}
+use Rattle.tree_lines.specs.declared.fault.Fault.{Fault as LineFault}
 use Rattle.tree_lines.specs.declared.told.Told.{Told}
 use Rattle.tree_changes.specs.Emptying.{Empties, EmptiesUpTo, KeepsTree, RemovesEach, RemovesMet, RemovesTree, RemovesVisited}
 use Rattle.tree_changes.specs.Emptying.{TakesIfAny, TakesName, still_whole, visit_outcome}
@@ -127,8 +128,8 @@ module _ (T types : Types) (top folder : ℕ) (types_is : types ≡ T) (folder_i
       subst (λ (n : ℕ). RmdirIn T n directory name middle new between volume' result) folder_is
       (subst (λ (t : Types). RmdirIn t folder directory name middle new between volume' result) types_is rmdir)
 
-  pub tree_removed : {E : Type 0} (result : Result (Unit {0}) E) → Answers (RmdirIn types folder directory name middle new between volume') result →
+  pub tree_removed : (result : Result (Unit {0}) LineFault) → Answers (RmdirIn types folder directory name middle new between volume') result →
       MatchResult result (λ done. RemovesTree T top path number directory name told told' old new volume volume')
-      (λ fault. KeepsTree T top path number directory name told told' old new volume volume')
+      (λ line. KeepsTree T top path number directory name line told told' old new volume volume')
   tree_removed (Ok done) rmdir = (true, middle, between, empties_so, inl (refl, rmdir_so (Ok tt) rmdir))
   tree_removed (Err fault) rmdir = inr (middle, between, rmdir.0, empties_so, rmdir_so (Err rmdir.0) rmdir.1)

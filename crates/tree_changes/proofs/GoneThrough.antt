@@ -1,13 +1,13 @@
 -- What words do below a folder: one step more, and the end.
 use Rattle.std.proofs.Common.{◌≡◌, ◌∙◌, ℕ, ◌+◌, true, List, Result, Ok, Err, inl, inr, refl, subst, sym}
-use Rattle.std.specs.Prelude.{IsErr, MatchResult}
+use Rattle.std.specs.Prelude.{IfErr, IsErr, MatchResult}
 use Rattle.xn_model.specs.Lives.{StoreState}
 use Rattle.xn_model.specs.Types.{Types}
 use Rattle.treefs_model.specs.declared.fault.Fault.{Fault}
 use Rattle.treefs.specs.declared.volume.Volume.{Volume}
 use Rattle.tree_lines.specs.Answers.{Answers}
 use Rattle.tree_lines.specs.Places.{IsFolder}
-use Rattle.tree_lines.specs.Telling.{GoesOn, PassesOn}
+use Rattle.tree_lines.specs.Telling.{EndsLine, GoesOn, PassesOn}
 use Rattle.tree_lines.specs.Trees.{ComesIn, IsNodeIn}
 use Rattle.tree_lines.specs.Walks.{IsUnmet, Met, Progress, begun}
 use Rattle.tree_lines.specs.Walks.Outcome.{Meets}
@@ -88,22 +88,24 @@ module _ (setting : Setting) (T : Types) (top : ℕ) (path : List ℕ) (number :
 
 -- of what stands at a path, and of all below it
 
-module _ {E : Type 0} (setting : Setting) (T types : Types) (top folder : ℕ) (types_is : types ≡ T) (folder_is : folder ≡ top) (path : List ℕ)
+module _ (setting : Setting) (T types : Types) (top folder : ℕ) (types_is : types ≡ T) (folder_is : folder ≡ top) (path : List ℕ)
     (told told1 told' : Told) (told_is : told1 ≡ told) (old middle new : StoreState) (volume between volume' : Volume) (node : Node)
     (there : IsNodeIn old volume top path true node)
     (set : SetsIfAny T top node.number (set_of setting node) old middle volume between (Ok tt)) (is : IsFolder node) where
-  below_so : (result : Result (Unit {0}) E) → SetsBelow setting types folder path node.number told1 told' middle new between volume' result →
+  below_so : (result : Result (Unit {0}) LineFault) → SetsBelow setting types folder path node.number told1 told' middle new between volume' result →
       SetsBelow setting T top path node.number told told' middle new between volume' result
   below_so result below =
       subst (λ (t : Told). SetsBelow setting T top path node.number t told' middle new between volume' result) told_is
       (subst (λ (n : ℕ). SetsBelow setting T n path node.number told1 told' middle new between volume' result) folder_is
       (subst (λ (t : Types). SetsBelow setting t folder path node.number told1 told' middle new between volume' result) types_is below))
 
-  tree_there : (result : Result (Unit {0}) E) → SetsBelow setting T top path node.number told told' middle new between volume' result →
+  tree_there : (result : Result (Unit {0}) LineFault) → IfErr result EndsLine →
+      SetsBelow setting T top path node.number told told' middle new between volume' result →
       SetsTreeAt setting T top path told told' old new volume volume' result
-  tree_there (Ok done) all = (node, middle, between, there, set, inr (is, all))
-  tree_there (Err fault) some = inr (node, middle, between, there, set, is, some)
+  tree_there (Ok done) ends all = (node, middle, between, there, set, inr (is, all))
+  tree_there (Err fault) ends some = inr (node, middle, between, there, set, is, some, ends)
 
-  pub tree_set : (result : Result (Unit {0}) E) → SetsBelow setting types folder path node.number told1 told' middle new between volume' result →
+  pub tree_set : (result : Result (Unit {0}) LineFault) → IfErr result EndsLine →
+      SetsBelow setting types folder path node.number told1 told' middle new between volume' result →
       SetsTreeAt setting T top path told told' old new volume volume' result
-  tree_set result below = tree_there result (below_so result below)
+  tree_set result ends below = tree_there result ends (below_so result below)

@@ -1,4 +1,5 @@
 mod Along
+mod AlongTold
 mod Changing
 mod Fronts
 mod Going

@@ -23,6 +23,7 @@ use Rattle.tree_lines.specs.declared.node.Node.{Node}
 use Rattle.tree_lines.specs.declared.told.Told.{Told}
 use Rattle.tree_changes.specs.Attributes.{IsUnset, SetsIfAny, set_of}
 use Rattle.tree_changes.specs.Paths.{IsRefused, IsSame}
+use Rattle.tree_changes.specs.PathsTold.{AtPathTold}
 use Rattle.tree_changes.specs.declared.setting.Setting.{Setting}
 
 -- Does: what the call did, and answered
@@ -87,13 +88,13 @@ SetsTree setting T folder path told told' old new volume volume' = (node : Node)
     × (((¬ IsFolder node) × IsSame middle new between volume' × (told' ≡ told))
     ⊎ (IsFolder node × SetsAll setting T folder path node.number told told' middle new between volume'))
 
-abbrev pub SetsTreeUpTo : Setting → Types → ℕ → List ℕ → Told → StoreState → StoreState → Volume → Volume → Type 0
-SetsTreeUpTo setting T folder path told old new volume volume' = IsUnset setting T folder path old new volume volume'
+-- it is not set, and nothing is told; or the line ends below it
+abbrev pub SetsTreeUpTo : Setting → Types → ℕ → List ℕ → LineFault → Told → Told → StoreState → StoreState → Volume → Volume → Type 0
+SetsTreeUpTo setting T folder path line told told' old new volume volume' =
+    (IsUnset setting T folder path old new volume volume' × (told' ≡ told))
     ⊎ ((node : Node) × (middle : StoreState) × (between : Volume) × IsNodeIn old volume folder path true node
     × SetsIfAny T folder node.number (set_of setting node) old middle volume between (Ok tt) × IsFolder node
-    × SetsUpTo setting T folder path node.number told middle new between volume')
+    × SetsUpTo setting T folder path node.number told middle new between volume' × EndsLine line)
 
-abbrev pub SetsTreeAt : {E : Type 0} → Setting → Types → ℕ → List ℕ → Told → Told → StoreState → StoreState → Volume → Volume → Result (Unit {0}) E → Type 0
-SetsTreeAt setting T folder path told told' old new volume volume' result =
-    MatchResult result (λ done. SetsTree setting T folder path told told' old new volume volume')
-    (λ fault. SetsTreeUpTo setting T folder path told old new volume volume')
+abbrev pub SetsTreeAt : Setting → Types → ℕ → List ℕ → Told → Told → StoreState → StoreState → Volume → Volume → Result (Unit {0}) LineFault → Type 0
+SetsTreeAt setting T folder = AtPathTold (SetsTree setting T folder) (SetsTreeUpTo setting T folder)

@@ -100,8 +100,10 @@ RemovesTree T folder path number directory name told told' old new volume volume
     × Empties T folder path number whole told told' old middle volume between
     × (((whole ≡ true) × RmdirIn T folder directory name middle new between volume' (Ok tt)) ⊎ ((whole ≡ false) × IsSame middle new between volume'))
 
-abbrev pub KeepsTree : Types → ℕ → List ℕ → ℕ → ℕ → List ℕ → Told → Told → StoreState → StoreState → Volume → Volume → Type 0
-KeepsTree T folder path number directory name told told' old new volume volume' = EmptiesUpTo T folder path number told old new volume volume'
+-- line: the fault that is answered
+abbrev pub KeepsTree : Types → ℕ → List ℕ → ℕ → ℕ → List ℕ → LineFault → Told → Told → StoreState → StoreState → Volume → Volume → Type 0
+KeepsTree T folder path number directory name line told told' old new volume volume' =
+    (EmptiesUpTo T folder path number told old new volume volume' × EndsLine line)
     ⊎ ((middle : StoreState) × (between : Volume) × (fault : Fault) × Empties T folder path number true told told' old middle volume between
     × RmdirIn T folder directory name middle new between volume' (Err fault))
 
@@ -112,11 +114,11 @@ RemovesAllNamed forced T folder path directory name slash told told' old new vol
     ⊎ ((node : Node) × IsThereIn old volume directory name (Some node) × IsFolder node
     × RemovesTree T folder path node.number directory name told told' old new volume volume')
 
-abbrev pub KeepsNamed : Types → ℕ → List ℕ → ℕ → List ℕ → Bool → Told → Told → StoreState → StoreState → Volume → Volume → Type 0
-KeepsNamed T folder path directory name slash told told' old new volume volume' =
-    IsNameKept T folder directory name slash old new volume volume'
+abbrev pub KeepsNamed : Types → ℕ → List ℕ → ℕ → List ℕ → Bool → LineFault → Told → Told → StoreState → StoreState → Volume → Volume → Type 0
+KeepsNamed T folder path directory name slash line told told' old new volume volume' =
+    (IsNameKept T folder directory name slash old new volume volume' × (told' ≡ told))
     ⊎ ((node : Node) × IsThereIn old volume directory name (Some node) × IsFolder node
-    × KeepsTree T folder path node.number directory name told told' old new volume volume')
+    × KeepsTree T folder path node.number directory name line told told' old new volume volume')
 
 -- Of a path
 
@@ -127,7 +129,7 @@ RemovesAll forced T folder path told told' old new volume volume' =
     ⊎ ((own : List ℕ) × (directory : ℕ) × (name : List ℕ) × (slash : Bool) × IsOwnName path own × IsPlaceIn old volume folder path directory name slash
     × RemovesAllNamed forced T folder path directory name slash told told' old new volume volume')
 
-abbrev pub KeepsSome : Types → ℕ → List ℕ → Told → Told → StoreState → StoreState → Volume → Volume → Type 0
-KeepsSome T folder path told told' old new volume volume' = IsSame old new volume volume'
+abbrev pub KeepsSome : Types → ℕ → List ℕ → LineFault → Told → Told → StoreState → StoreState → Volume → Volume → Type 0
+KeepsSome T folder path line told told' old new volume volume' = (IsSame old new volume volume' × (told' ≡ told))
     ⊎ ((own : List ℕ) × (directory : ℕ) × (name : List ℕ) × (slash : Bool) × IsOwnName path own × IsPlaceIn old volume folder path directory name slash
-    × KeepsNamed T folder path directory name slash told told' old new volume volume')
+    × KeepsNamed T folder path directory name slash line told told' old new volume volume')

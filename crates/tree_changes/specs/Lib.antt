@@ -1,4 +1,5 @@
 pub mod Paths
+pub mod PathsTold
 pub mod Folders
 pub mod Making
 pub mod Modes

@@ -6,9 +6,10 @@ ghost use Rattle.tree_changes.specs.Emptying.{Empties, EmptiesUpTo, KeepsNamed, 
 ghost use Rattle.tree_changes.specs.Emptying.{TakesIfAny, TakesName, TellsLeft, step_visited};
 ghost use Rattle.tree_changes.specs.Folders.{RmdirIn};
 ghost use Rattle.tree_changes.specs.Paths.{AtPath, DoesPaths, IsSame};
+ghost use Rattle.tree_changes.specs.PathsTold.{AtPathTold, TellsPaths};
 ghost use Rattle.tree_changes.specs.Removing.{IsKept, IsNameKept, Removes, RemovesNamed, TellsMissing, UnlinkIn};
 ghost use Rattle.tree_lines.specs.Answers.{Answers};
-ghost use Rattle.tree_lines.specs.Telling.{count_of};
+ghost use Rattle.tree_lines.specs.Telling.{EndsLine, count_of};
 ghost use Rattle.tree_lines.specs.Trees.{ComesIn};
 ghost use Rattle.tree_lines.specs.Walks.{IsUnseen, progress};
 
@@ -105,6 +106,7 @@ fn remove_step<S: FlushStore + Drop>(
 ) -> Result<bool, Fault>
     ensures types { S.types_of opened.new.session.store ≡ S.types_of opened.old.session.store }
     ensures folder { opened.new.folder ≡ opened.old.folder }
+    ensures ends { IfErr result EndsLine }
     ensures does { MatchResult result
         (λ removed. TakesIfAny (TakesName (S.types_of opened.old.session.store) opened.old.folder met.entry.1 met.entry.0.now.folder met.entry.0.now.name.items
         (S.state_of opened.old.session.store) (S.state_of opened.new.session.store) opened.old.session.volume opened.new.session.volume)
@@ -138,6 +140,7 @@ fn next_step<S: FlushStore + Drop>(
     ensures comes { IfOk result (λ next. ComesIn (S.state_of opened.old.session.store) opened.old.session.volume IsUnseen (progress walk.old) opened.old.told
         (progress walk.new) opened.new.told (step_visited next.0)) }
     ensures unseen { IfOk result (λ next. next.1 ≡ nat_lt (count_of opened.old.told) (count_of opened.new.told)) }
+    ensures ends { IfErr result EndsLine }
 {
     let before = opened.told.count();
     let visit = walk.next(&opened.session, alloc, &mut opened.told)?;
@@ -150,7 +153,7 @@ fn next_step<S: FlushStore + Drop>(
     Ok((step, is_unseen))
 }
 
-/// Removes all below a folder, and answers whether nothing is left. Faults are told.
+/// Removes all below a folder, and answers whether nothing is left. Faults are told, but for one that ends the line.
 fn empty_folder<S: FlushStore + Drop>(
     opened: &mut Opened<S>,
     alloc: Global,
@@ -164,6 +167,7 @@ fn empty_folder<S: FlushStore + Drop>(
         (S.state_of opened.old.session.store) (S.state_of opened.new.session.store) opened.old.session.volume opened.new.session.volume)
         (λ fault. EmptiesUpTo (S.types_of opened.old.session.store) opened.old.folder path.now folder opened.old.told
         (S.state_of opened.old.session.store) (S.state_of opened.new.session.store) opened.old.session.volume opened.new.session.volume) }
+    ensures ends { IfErr result EndsLine }
 {
     let mut is_whole = true;
     let mut walk = Walk::below(alloc, path.as_bytes(), folder)?;
@@ -195,7 +199,7 @@ fn remove_tree<S: FlushStore + Drop>(
     ensures does { MatchResult result
         (λ done. RemovesTree (S.types_of opened.old.session.store) opened.old.folder path.now number place.entry.0 place.entry.1.now opened.old.told
         opened.new.told (S.state_of opened.old.session.store) (S.state_of opened.new.session.store) opened.old.session.volume opened.new.session.volume)
-        (λ fault. KeepsTree (S.types_of opened.old.session.store) opened.old.folder path.now number place.entry.0 place.entry.1.now opened.old.told
+        (λ fault. KeepsTree (S.types_of opened.old.session.store) opened.old.folder path.now number place.entry.0 place.entry.1.now fault opened.old.told
         opened.new.told (S.state_of opened.old.session.store) (S.state_of opened.new.session.store) opened.old.session.volume opened.new.session.volume) }
 {
     if empty_folder(opened, alloc, path, number)? {
@@ -227,7 +231,7 @@ fn remove_named<S: FlushStore + Drop>(
         place.entry.has_slash opened.old.told opened.new.told
         (S.state_of opened.old.session.store) (S.state_of opened.new.session.store) opened.old.session.volume opened.new.session.volume)
         (λ fault. KeepsNamed (S.types_of opened.old.session.store) opened.old.folder path.now place.entry.folder place.entry.name.now place.entry.has_slash
-        opened.old.told opened.new.told
+        fault opened.old.told opened.new.told
         (S.state_of opened.old.session.store) (S.state_of opened.new.session.store) opened.old.session.volume opened.new.session.volume) }
 {
     let node = match there(&opened.session, place) {
@@ -272,11 +276,10 @@ fn remove_one<S: FlushStore + Drop>(
         AtPath (Removes how.is_forced (S.types_of opened.old.session.store) opened.old.folder)
         (IsKept (S.types_of opened.old.session.store) opened.old.folder) path.now
         (S.state_of opened.old.session.store) (S.state_of opened.new.session.store) opened.old.session.volume opened.new.session.volume result }
-    ensures all { how.is_recursive ≡ true → MatchResult result
-        (λ done. RemovesAll how.is_forced (S.types_of opened.old.session.store) opened.old.folder path.now opened.old.told opened.new.told
-        (S.state_of opened.old.session.store) (S.state_of opened.new.session.store) opened.old.session.volume opened.new.session.volume)
-        (λ fault. KeepsSome (S.types_of opened.old.session.store) opened.old.folder path.now opened.old.told opened.new.told
-        (S.state_of opened.old.session.store) (S.state_of opened.new.session.store) opened.old.session.volume opened.new.session.volume) }
+    ensures all { how.is_recursive ≡ true →
+        AtPathTold (RemovesAll how.is_forced (S.types_of opened.old.session.store) opened.old.folder)
+        (KeepsSome (S.types_of opened.old.session.store) opened.old.folder) path.now opened.old.told opened.new.told
+        (S.state_of opened.old.session.store) (S.state_of opened.new.session.store) opened.old.session.volume opened.new.session.volume result }
 {
     match place_of(&opened.session, alloc, opened.folder, path) {
         Ok(place) => {
@@ -302,6 +305,12 @@ pub fn remove<S: FlushStore + Drop>(
         (IsKept (S.types_of opened.old.session.store) opened.old.folder) (map (λ path. path.now) paths.now)
         opened.old.told opened.new.told (S.state_of opened.old.session.store) (S.state_of opened.new.session.store)
         opened.old.session.volume opened.new.session.volume result }
+    ensures all { how.is_recursive ≡ true →
+        TellsPaths (RemovesAll how.is_forced (S.types_of opened.old.session.store) opened.old.folder)
+        (KeepsSome (S.types_of opened.old.session.store) opened.old.folder) (map (λ path. path.now) paths.now)
+        opened.old.told opened.new.told (S.state_of opened.old.session.store) (S.state_of opened.new.session.store)
+        opened.old.session.volume opened.new.session.volume result }
+    ensures ends { IfErr result EndsLine }
 {
     for path in paths {
         let done = remove_one(opened, alloc, path, how);

@@ -1,10 +1,12 @@
 // The words `chmod` and `chown`.
 
-ghost use Rattle.std.specs.Prelude.{◌≡◌, false, map, true};
+ghost use Rattle.std.specs.Prelude.{◌≡◌, IfErr, false, map, true};
 ghost use Rattle.tree_changes.specs.Attributes.{IsSet, IsUnset, SetsIfAny, set_of};
-ghost use Rattle.tree_changes.specs.Below.{SetsBelow, SetsTreeAt};
+ghost use Rattle.tree_changes.specs.Below.{SetsBelow, SetsTree, SetsTreeAt, SetsTreeUpTo};
 ghost use Rattle.tree_changes.specs.Paths.{AtPath, DoesPaths};
+ghost use Rattle.tree_changes.specs.PathsTold.{TellsPaths};
 ghost use Rattle.tree_lines.specs.Answers.{Answers};
+ghost use Rattle.tree_lines.specs.Telling.{EndsLine};
 
 use crate::modes::Modes;
 use crate::owners::Owners;
@@ -68,7 +70,7 @@ fn set_node<S: FlushStore + Drop>(
     }
 }
 
-/// Sets what is to be set of all that stands below a folder. Faults are told.
+/// Sets what is to be set of all that stands below a folder. Faults are told, but for one that ends the line.
 fn set_below<S: FlushStore + Drop>(
     opened: &mut Opened<S>,
     alloc: Global,
@@ -80,6 +82,7 @@ fn set_below<S: FlushStore + Drop>(
     ensures folder { opened.new.folder ≡ opened.old.folder }
     ensures does { SetsBelow setting.now (S.types_of opened.old.session.store) opened.old.folder path.now folder opened.old.told opened.new.told
         (S.state_of opened.old.session.store) (S.state_of opened.new.session.store) opened.old.session.volume opened.new.session.volume result }
+    ensures ends { IfErr result EndsLine }
 {
     let mut walk = Walk::below(alloc, path.as_bytes(), folder)?;
     for _name in 0..u64::MAX {
@@ -135,6 +138,12 @@ pub fn set_attributes<S: FlushStore + Drop>(
         (IsUnset setting.now (S.types_of opened.old.session.store) opened.old.folder) (map (λ path. path.now) paths.now)
         opened.old.told opened.new.told (S.state_of opened.old.session.store) (S.state_of opened.new.session.store)
         opened.old.session.volume opened.new.session.volume result }
+    ensures below { is_recursive ≡ true →
+        TellsPaths (SetsTree setting.now (S.types_of opened.old.session.store) opened.old.folder)
+        (SetsTreeUpTo setting.now (S.types_of opened.old.session.store) opened.old.folder) (map (λ path. path.now) paths.now)
+        opened.old.told opened.new.told (S.state_of opened.old.session.store) (S.state_of opened.new.session.store)
+        opened.old.session.volume opened.new.session.volume result }
+    ensures ends { IfErr result EndsLine }
 {
     for path in paths {
         let done = set_one(opened, alloc, path, setting, is_recursive);

@@ -5,6 +5,7 @@ use Rattle.tree_lines.specs.Trees.{ComesIn}
 use Rattle.tree_lines.specs.Walks.{IsUnseen, begun, met_of, progress}
 use Rattle.tree_lines.specs.declared.walking.Step.{Step}
 use Rattle.tree_changes.specs.Emptying.{Empties, EmptiesUpTo, step_visited, still_whole, visit_outcome}
+use Rattle.tree_changes.proofs.AlongTold.{answers_end}
 use Rattle.tree_changes.proofs.Emptied.{ended, ends_taking, err_there, gone_in, never_whole, none_removed}
 use Rattle.tree_changes.proofs.Emptied.{not_begun, not_further, one_taken, passed, seen_whole}
 use Rattle.tree_changes.proofs.removing.empty_folder.Goals as goal
@@ -47,6 +48,10 @@ returns-in_err-step-clause-does g c =
     c.from_residual-in_err-step.result c.from_residual-in_err-step.ensures.0
     (not_further T first.folder c.args.path.now c.args.folder first.told old first.session.volume c.loop-name._name (progress c.loop-name.walk)
     before.told c.loop-name.is_whole state before.session.volume c.loop-name.invariant.removes between next.session.volume c.next_step.ensures.same)
+
+pub returns-in_err-step-clause-ends : goal.returns-in_err-step-clause-ends
+returns-in_err-step-clause-ends g c =
+    answers_end c.in_err-step.field-0.0 c.from_residual-in_err-step.result c.in_err-step.ensures.ends c.from_residual-in_err-step.ensures.1
 
 pub loop-name-preserved-then-not-is_behind : goal.loop-name-preserved-then-not-is_behind
 loop-name-preserved-then-not-is_behind g c =
@@ -109,6 +114,11 @@ returns-in_err-is_removed-clause-does g c =
     next.session.volume c.next_step.ensures.same comes c.if-is_whole.is_whole whole (g.S.Store.types_of next.session.store) next.folder
     (c.next_step.ensures.types ∙ c.loop-name.invariant.types) (c.next_step.ensures.folder ∙ c.loop-name.invariant.folder) new last.session.volume
     refused.0 refused.1)
+
+pub returns-in_err-is_removed-clause-ends : goal.returns-in_err-is_removed-clause-ends
+returns-in_err-is_removed-clause-ends g c =
+    answers_end c.in_err-is_removed.field-0.0 c.from_residual-in_err-is_removed.result c.in_err-is_removed.ensures.ends
+    c.from_residual-in_err-is_removed.ensures.1
 
 pub loop-name-preserved : goal.loop-name-preserved
 loop-name-preserved g c =

@@ -2,6 +2,7 @@ use Rattle.std.proofs.Common.{inr}
 use Rattle.tree_changes.specs.Emptying.{KeepsNamed, KeepsSome, RemovesAll, RemovesAllNamed}
 use Rattle.tree_changes.specs.Removing.{IsKept, IsNameKept, Removes, RemovesNamed}
 use Rattle.tree_changes.proofs.Along.{answered_as}
+use Rattle.tree_changes.proofs.AlongTold.{answered_with}
 use Rattle.tree_changes.proofs.Removals.{kept, removed}
 use Rattle.tree_changes.proofs.removing.remove_one.Goals as goal
 
@@ -38,10 +39,10 @@ returns-in_ok-_own-in-Ok-clause-all g c =
     let path = c.args.path.now in
     let place = c.in-Ok.place in
     let own = c.in_ok-_own-in-Ok in
-    λ recursive. answered_as
+    λ recursive. answered_with
     (RemovesAllNamed forced T before.folder path place.folder place.name.now place.has_slash before.told after.told old new volume volume')
-    (KeepsNamed T before.folder path place.folder place.name.now place.has_slash before.told after.told old new volume volume')
+    (λ fault. KeepsNamed T before.folder path place.folder place.name.now place.has_slash fault before.told after.told old new volume volume')
     (RemovesAll forced T before.folder path before.told after.told old new volume volume')
-    (KeepsSome T before.folder path before.told after.told old new volume volume') c.remove_named.result (c.remove_named.ensures.all recursive)
+    (λ fault. KeepsSome T before.folder path fault before.told after.told old new volume volume') c.remove_named.result (c.remove_named.ensures.all recursive)
     (λ made. inr (own._own.now, place.folder, place.name.now, place.has_slash, own.ensures, c.in-Ok.ensures.ok, made))
-    (λ refused. inr (own._own.now, place.folder, place.name.now, place.has_slash, own.ensures, c.in-Ok.ensures.ok, refused))
+    (λ fault refused. inr (own._own.now, place.folder, place.name.now, place.has_slash, own.ensures, c.in-Ok.ensures.ok, refused))

@@ -3,6 +3,7 @@ use Rattle.tree_lines.specs.Trees.{ComesIn}
 use Rattle.tree_lines.specs.Walks.{IsUnmet, begun, met_of, progress, step_outcome}
 use Rattle.tree_lines.specs.Walks.Outcome.{Meets}
 use Rattle.tree_lines.specs.declared.walking.Step.{Step}
+use Rattle.tree_changes.proofs.AlongTold.{answers_end, ends_line}
 use Rattle.tree_changes.proofs.GoneThrough.{none_set, not_begun, not_further, one_set, set_ends}
 use Rattle.tree_changes.proofs.setting.set_below.Goals as goal
 use Rattle.tree_changes.proofs.setting.set_below.Goals.{else-loop-name-test, then-loop-name-test+in_ok-step+in_default}
@@ -50,6 +51,12 @@ returns-in_err-go_on-clause-does g c =
     (progress c.next_met.new.self) c.next_met.new.told after.told c.go_on.new.self (met_of step) comes (g.S.Store.state_of after.session.store)
     after.session.volume c.set_node-done.result c.go_on.result c.set_node-done.ensures.does c.set_node-done.ensures.told c.go_on.ensures
     c.in_err-go_on.field-0.0 c.from_residual-in_err-go_on.result c.in_err-go_on.was c.from_residual-in_err-go_on.ensures.0
+
+pub returns-in_err-go_on-clause-ends : goal.returns-in_err-go_on-clause-ends
+returns-in_err-go_on-clause-ends g c =
+    let after = c.set_node-done.new.opened in
+    let ends = ends_line after.told c.go_on.new.self c.set_node-done.result c.go_on.result c.in_err-go_on.field-0.0 c.go_on.ensures c.in_err-go_on.was in
+    answers_end c.in_err-go_on.field-0.0 c.from_residual-in_err-go_on.result ends c.from_residual-in_err-go_on.ensures.1
 
 pub loop-name-preserved : goal.loop-name-preserved
 loop-name-preserved g c =

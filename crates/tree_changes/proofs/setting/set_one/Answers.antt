@@ -13,7 +13,7 @@ returns-then-is_folder-clause-below g c =
     λ recursive. tree_set c.args.setting.now (g.S.Store.types_of before.session.store) (g.S.Store.types_of middle.session.store) before.folder middle.folder
     set.types set.folder c.args.path.now before.told middle.told after.told set.told (g.S.Store.state_of before.session.store)
     (g.S.Store.state_of middle.session.store) (g.S.Store.state_of after.session.store) before.session.volume middle.session.volume after.session.volume
-    c.in_ok-node.node c.in_ok-node.ensures set.does (c.if-is_folder.ensures.0 refl) c.set_below.result c.set_below.ensures.does
+    c.in_ok-node.node c.in_ok-node.ensures set.does (c.if-is_folder.ensures.0 refl) c.set_below.result c.set_below.ensures.ends c.set_below.ensures.does
 
 pub returns-clause-below : goal.returns-clause-below
 returns-clause-below g c =
