@@ -69,9 +69,12 @@ one_time (Some text) a b m n x y = (one_clock (before_byte 46 text) a b x.0 y.0,
 pub civil_told : (day : Day) (clock : Clock) (n : ℕ) (moment : DateTime) (y m d h i s f : ℤ) → y ≡ pos day.year → m ≡ pos day.month → d ≡ pos day.day →
     h ≡ pos clock.hour → i ≡ pos clock.minute → s ≡ pos clock.second → f ≡ pos n → IsDate y m d → IsTimeOfDay h i s f → IsYmd y m d moment.date →
     IsHms h i s f moment.time → IsCivil day clock n moment
-civil_told day clock n moment y m d h i s f e1 e2 e3 e4 e5 e6 e7 date time ymd hms =
-    (subst (λ v. IsDate v (pos day.month) (pos day.day)) e1 (subst (λ v. IsDate y v (pos day.day)) e2 (subst (λ v. IsDate y m v) e3 date)),
-    rw (sym e4, sym e5, sym e6, sym e7) time, rw (sym e1, sym e2, sym e3) ymd, rw (sym e4, sym e5, sym e6, sym e7) hms)
+civil_told day clock n moment y m d h i s f e1 e2 e3 e4 e5 e6 e7 date time ymd hms = (
+  subst (λ v. IsDate v (pos day.month) (pos day.day)) e1 (subst (λ v. IsDate y v (pos day.day)) e2 (subst (λ v. IsDate y m v) e3 date)),
+  rw (sym e4, sym e5, sym e6, sym e7) time,
+  rw (sym e1, sym e2, sym e3) ymd,
+  rw (sym e4, sym e5, sym e6, sym e7) hms,
+)
 
 pub no_civil : (day : Day) (clock : Clock) (n : ℕ) (y m d h i s f : ℤ) → y ≡ pos day.year → m ≡ pos day.month → d ≡ pos day.day →
     h ≡ pos clock.hour → i ≡ pos clock.minute → s ≡ pos clock.second → f ≡ pos n → (IsDate y m d → IsTimeOfDay h i s f → ⊥) →
@@ -114,8 +117,8 @@ moment_told text day clock n moment (Some time) is_day is_clock civil told = (da
 moment_told text day clock n moment None is_day is_clock civil untold = λ time told.
     let same = one_time (day_and_clock text).1 told.1 clock told.2 n told.4 is_clock in
     let other = subst (λ m. IsCivil day clock m told.5) same.1
-        (subst (λ k. IsCivil day k told.2 told.5) same.0
-        (subst (λ d. IsCivil d told.1 told.2 told.5) (one_day (day_and_clock text).0 told.0 day told.3 is_day) told.6)) in
+    (subst (λ k. IsCivil day k told.2 told.5) same.0
+    (subst (λ d. IsCivil d told.1 told.2 told.5) (one_day (day_and_clock text).0 told.0 day told.3 is_day) told.6)) in
     untold time (told.7.0 ∙ same_nanos day clock n told.5 moment other civil, told.7.1)
 
 -- a text that is no number of seconds tells a moment, or nothing
@@ -123,6 +126,6 @@ pub moment_alone : (text plain : List ℕ) (result : Option ℤ) → plain ≡ w
     IsTold (IsTime text) result
 moment_alone text plain (Some time) is other told = inr (other, subst (λ t. IsMoment t time) is told)
 moment_alone text plain None is other untold = λ time told. elim told [
-    | inl seconds ↦ other seconds.0
-    | inr moment ↦ untold time (subst (λ t. IsMoment t time) (sym is) moment.1)
-  ]
+  | inl seconds ↦ other seconds.0
+  | inr moment ↦ untold time (subst (λ t. IsMoment t time) (sym is) moment.1)
+]

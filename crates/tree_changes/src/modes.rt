@@ -7,7 +7,6 @@ ghost use Rattle.tree_changes.specs.ModeTexts.{rights_behind};
 ghost use Rattle.tree_changes.specs.Modes.{clause_applied, mode_applied};
 
 use crate::numbers::read_number;
-
 use std::alloc::{AllocError, Global};
 
 /// What a clause does with its bits.
