@@ -17,3 +17,5 @@ mod CopiedOver
 mod CopiedPaths
 mod PartsCut
 mod Moments
+mod TreesCopied
+mod PathsCopied

@@ -21,3 +21,5 @@ pub mod Copies
 pub mod CopiedFiles
 pub mod CopiedFolders
 pub mod Copying
+pub mod CopiedTrees
+pub mod CopiedPaths

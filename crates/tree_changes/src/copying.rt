@@ -1,11 +1,18 @@
 // The word `cp`.
 
-ghost use Rattle.std.specs.Prelude.{◌≡◌, Bool, IfOk, MatchResult, false, length, map, nat_lt, vec_len};
+ghost use Rattle.std.specs.Prelude.{◌≡◌, ◌⊎◌, Bool, Err, IfOk, MatchResult, Ok, Some, false, length, map, nat_lt, true, vec_len};
+ghost use Rattle.treefs_model.specs.declared.fault.Fault.{Fault as Why};
 ghost use Rattle.tree_changes.specs.CopiedFiles.{CopiesOver, IsReplaced, LeavesOver, with_rights_of};
 ghost use Rattle.tree_changes.specs.CopiedFolders.{CopiesFolder, IsBelow, LeavesFolder};
+ghost use Rattle.tree_changes.specs.CopiedPaths.{CopiesAllAt, CopiesTrees, LeavesAllAt, StopsAllAt};
+ghost use Rattle.tree_changes.specs.CopiedTrees.{CopiesBelow, CopiesFolderMet, CopiesMet, CopiesPart, CopiesTree, CopiesVisited, CopiesWhole};
+ghost use Rattle.tree_changes.specs.CopiedTrees.{GivesTime, LeavesTree, StopsMet, StopsTree, StopsVisited, inner_of};
 ghost use Rattle.tree_changes.specs.Copying.{CopiesAt, CopiesPaths, IsLeftAt};
 ghost use Rattle.tree_changes.specs.Moving.{HasGoal};
 ghost use Rattle.tree_changes.specs.Paths.{AtPath};
+ghost use Rattle.tree_lines.specs.Answers.{Answers};
+ghost use Rattle.tree_lines.specs.Telling.{EndsLine};
+ghost use Rattle.tree_lines.specs.Walks.{met_of, outcome_of, progress};
 
 use crate::attributes::attributes_of;
 use crate::copies::{Copied, Copying, copy_file, keep_time};
@@ -152,6 +159,41 @@ struct Into {
     is_new: bool,
 }
 
+/// The folder into which is copied what is met: the last one of those to which are copied the ones in which a walk is, where it could be made.
+fn inner_of(folders: &[Option<Into>]) -> Option<Into>
+    ensures { result ≡ inner_of folders.now }
+{
+    match folders.last() {
+        Some(folder) => *folder,
+        None => None,
+    }
+}
+
+/// The folder to which one that a walk has met is copied; where that fails it is told, and there is none.
+fn copy_folder_met<S: FlushStore + Drop>(
+    opened: &mut Opened<S>,
+    alloc: Global,
+    copied: &Copied,
+) -> Result<Option<Into>, Fault>
+    ensures types { S.types_of opened.new.session.store ≡ S.types_of opened.old.session.store }
+    ensures folder { opened.new.folder ≡ opened.old.folder }
+    ensures does { MatchResult result
+        (λ into. CopiesFolderMet (S.types_of opened.old.session.store) opened.old.folder copied.now.node copied.now.place.folder copied.now.place.name.now
+        copied.now.place.has_slash into opened.old.told opened.new.told
+        (S.state_of opened.old.session.store) (S.state_of opened.new.session.store) opened.old.session.volume opened.new.session.volume)
+        (λ fault. EndsLine fault × LeavesFolder (S.types_of opened.old.session.store) opened.old.folder
+        copied.now.node copied.now.place.folder copied.now.place.name.now copied.now.place.has_slash
+        (S.state_of opened.old.session.store) (S.state_of opened.new.session.store) opened.old.session.volume opened.new.session.volume) }
+{
+    match copy_folder(opened, alloc, copied) {
+        Ok((number, is_new)) => Ok(Some(Into { number, is_new })),
+        Err(fault) => {
+            opened.told.go_on(Err(fault))?;
+            Ok(None)
+        }
+    }
+}
+
 /// Copies what a walk has met into the folder that is the last one; a folder is the last one then. Where that fails it is told, and what is in it is left out.
 fn copy_met<S: FlushStore + Drop>(
     opened: &mut Opened<S>,
@@ -165,9 +207,17 @@ fn copy_met<S: FlushStore + Drop>(
     ensures folder { opened.new.folder ≡ opened.old.folder }
     ensures piece { vec_len copying.new.piece ≡ vec_len copying.old.piece }
     ensures recursive { copying.new.is_recursive ≡ copying.old.is_recursive }
+    ensures does { MatchResult result
+        (λ done. CopiesMet (S.types_of opened.old.session.store) opened.old.folder (vec_len copying.old.piece) (met_of met.entry.0.now)
+        (inner_of folders.old.items) (progress walk.old) (progress walk.new) opened.old.told opened.new.told folders.old.items folders.new.items
+        copying.old copying.new
+        (S.state_of opened.old.session.store) (S.state_of opened.new.session.store) opened.old.session.volume opened.new.session.volume)
+        (λ fault. EndsLine fault × StopsMet (S.types_of opened.old.session.store) opened.old.folder (vec_len copying.old.piece) (met_of met.entry.0.now)
+        (inner_of folders.old.items) copying.old
+        (S.state_of opened.old.session.store) (S.state_of opened.new.session.store) opened.old.session.volume opened.new.session.volume) }
 {
     let (step, to) = met;
-    let Some(Some(folder)) = folders.last() else {
+    let Some(folder) = inner_of(folders.as_slice()) else {
         return Ok(());
     };
     let copied = Copied {
@@ -184,14 +234,11 @@ fn copy_met<S: FlushStore + Drop>(
         let done = copy_other(opened, alloc, copying, &copied);
         return opened.told.go_on(done);
     }
-    match copy_folder(opened, alloc, &copied) {
-        Ok((number, is_new)) => folders.push(Some(Into { number, is_new }))?,
-        Err(fault) => {
-            opened.told.go_on(Err(fault))?;
-            folders.push(None)?;
-            walk.pass_over();
-        }
+    let into = copy_folder_met(opened, alloc, &copied)?;
+    if into.is_none() {
+        walk.pass_over();
     }
+    folders.push(into)?;
     Ok(())
 }
 
@@ -205,32 +252,98 @@ fn leave_folder<S: FlushStore + Drop>(
     ensures types { S.types_of opened.new.session.store ≡ S.types_of opened.old.session.store }
     ensures folder { opened.new.folder ≡ opened.old.folder }
     ensures told { opened.new.told ≡ opened.old.told }
+    ensures does { Answers (GivesTime (S.types_of opened.old.session.store) opened.old.folder left.entry.0.now folder
+        (S.state_of opened.old.session.store) (S.state_of opened.new.session.store) opened.old.session.volume opened.new.session.volume) result }
 {
     let (node, to) = left;
-    match folder {
-        Some(
-            Into {
-                number,
-                is_new: true,
-            },
-        ) => {
-            let copied = Copied {
-                node: *node,
-                path: to,
-                place: Place {
-                    folder: number,
-                    name: to,
-                    has_slash: false,
-                },
-                to,
-            };
-            keep_time(opened, alloc, &copied, number)
+    let Some(into) = folder else {
+        return Ok(());
+    };
+    if !into.is_new {
+        return Ok(());
+    }
+    let copied = Copied {
+        node: *node,
+        path: to,
+        place: Place {
+            folder: into.number,
+            name: to,
+            has_slash: false,
+        },
+        to,
+    };
+    keep_time(opened, alloc, &copied, into.number)
+}
+
+/// Copies what a walk has come to: what it has met goes into the folder that is the last one, and a folder that it has left is the last one no longer.
+fn copy_visited<S: FlushStore + Drop>(
+    opened: &mut Opened<S>,
+    alloc: Global,
+    copying: &mut Copying,
+    walk: &mut Walk,
+    visited: (&Visit, &[u8]),
+    folders: &mut Vec<Option<Into>>,
+) -> Result<(), Fault>
+    ensures types { S.types_of opened.new.session.store ≡ S.types_of opened.old.session.store }
+    ensures folder { opened.new.folder ≡ opened.old.folder }
+    ensures piece { vec_len copying.new.piece ≡ vec_len copying.old.piece }
+    ensures recursive { copying.new.is_recursive ≡ copying.old.is_recursive }
+    ensures does { MatchResult result
+        (λ done. CopiesVisited (S.types_of opened.old.session.store) opened.old.folder (vec_len copying.old.piece) (outcome_of (Some visited.entry.0.now))
+        (progress walk.old) (progress walk.new) opened.old.told opened.new.told folders.old.items folders.new.items copying.old copying.new
+        (S.state_of opened.old.session.store) (S.state_of opened.new.session.store) opened.old.session.volume opened.new.session.volume)
+        (λ fault. EndsLine fault × StopsVisited (S.types_of opened.old.session.store) opened.old.folder (vec_len copying.old.piece)
+        (outcome_of (Some visited.entry.0.now)) folders.old.items copying.old
+        (S.state_of opened.old.session.store) (S.state_of opened.new.session.store) opened.old.session.volume opened.new.session.volume) }
+{
+    let (visit, to) = visited;
+    match visit {
+        Visit::Met(step) => copy_met(opened, alloc, copying, walk, (step, to), folders),
+        Visit::Left(step) => {
+            let folder = inner_of(folders.as_slice());
+            let _folder = folders.pop();
+            let done = leave_folder(opened, alloc, (&step.node, to), folder);
+            opened.told.go_on(done)
         }
-        _ => Ok(()),
     }
 }
 
 /// Copies all below a folder into another one. That one is left out: it stands below the first one in no sound volume.
+fn copy_contents<S: FlushStore + Drop>(
+    opened: &mut Opened<S>,
+    alloc: Global,
+    copying: &mut Copying,
+    copied: &Copied,
+    into: Into,
+) -> Result<(), Fault>
+    ensures types { S.types_of opened.new.session.store ≡ S.types_of opened.old.session.store }
+    ensures folder { opened.new.folder ≡ opened.old.folder }
+    ensures piece { vec_len copying.new.piece ≡ vec_len copying.old.piece }
+    ensures recursive { copying.new.is_recursive ≡ copying.old.is_recursive }
+    ensures does { MatchResult result
+        (λ done. CopiesWhole (S.types_of opened.old.session.store) opened.old.folder (vec_len copying.old.piece) copied.now.path.now copied.now.node.number
+        into opened.old.told opened.new.told copying.old copying.new
+        (S.state_of opened.old.session.store) (S.state_of opened.new.session.store) opened.old.session.volume opened.new.session.volume)
+        (λ fault. EndsLine fault × CopiesPart (S.types_of opened.old.session.store) opened.old.folder (vec_len copying.old.piece) copied.now.path.now
+        copied.now.node.number into opened.old.told copying.old
+        (S.state_of opened.old.session.store) (S.state_of opened.new.session.store) opened.old.session.volume opened.new.session.volume) }
+{
+    let length = copied.path.len();
+    let mut walk = Walk::below(alloc, copied.path, copied.node.number)?;
+    walk.leave_out(into.number)?;
+    let mut folders = Vec::from_array(alloc, [Some(into)])?;
+    for _name in 0..u64::MAX {
+        let Some(visit) = walk.next(&opened.session, alloc, &mut opened.told)? else {
+            break;
+        };
+        let to = path_below(alloc, copied.to, walk.path(), length)?;
+        let visited = (&visit, to.as_slice());
+        copy_visited(opened, alloc, copying, &mut walk, visited, &mut folders)?;
+    }
+    Ok(())
+}
+
+/// Copies all below a folder into another one, which gets the time of the first one then where it is new.
 fn copy_below<S: FlushStore + Drop>(
     opened: &mut Opened<S>,
     alloc: Global,
@@ -242,28 +355,18 @@ fn copy_below<S: FlushStore + Drop>(
     ensures folder { opened.new.folder ≡ opened.old.folder }
     ensures piece { vec_len copying.new.piece ≡ vec_len copying.old.piece }
     ensures recursive { copying.new.is_recursive ≡ copying.old.is_recursive }
+    ensures does { MatchResult result
+        (λ done. CopiesBelow (S.types_of opened.old.session.store) opened.old.folder (vec_len copying.old.piece) copied.now.path.now copied.now.node
+        into opened.old.told opened.new.told copying.old copying.new
+        (S.state_of opened.old.session.store) (S.state_of opened.new.session.store) opened.old.session.volume opened.new.session.volume (Ok tt))
+        (λ fault. ((why : Why) × CopiesBelow (S.types_of opened.old.session.store) opened.old.folder (vec_len copying.old.piece) copied.now.path.now
+        copied.now.node into opened.old.told opened.new.told copying.old copying.new
+        (S.state_of opened.old.session.store) (S.state_of opened.new.session.store) opened.old.session.volume opened.new.session.volume (Err why))
+        ⊎ (EndsLine fault × CopiesPart (S.types_of opened.old.session.store) opened.old.folder (vec_len copying.old.piece) copied.now.path.now
+        copied.now.node.number into opened.old.told copying.old
+        (S.state_of opened.old.session.store) (S.state_of opened.new.session.store) opened.old.session.volume opened.new.session.volume)) }
 {
-    let length = copied.path.len();
-    let mut walk = Walk::below(alloc, copied.path, copied.node.number)?;
-    walk.leave_out(into.number)?;
-    let mut folders = Vec::from_array(alloc, [Some(into)])?;
-    for _name in 0..u64::MAX {
-        let Some(visit) = walk.next(&opened.session, alloc, &mut opened.told)? else {
-            break;
-        };
-        let to = path_below(alloc, copied.to, walk.path(), length)?;
-        match visit {
-            Visit::Met(step) => {
-                let met = (&step, to.as_slice());
-                copy_met(opened, alloc, copying, &mut walk, met, &mut folders)?;
-            }
-            Visit::Left(step) => {
-                let folder = folders.pop().unwrap_or(None);
-                let done = leave_folder(opened, alloc, (&step.node, &to), folder);
-                opened.told.go_on(done)?;
-            }
-        }
-    }
+    copy_contents(opened, alloc, copying, copied, into)?;
     leave_folder(opened, alloc, (&copied.node, copied.to), Some(into))
 }
 
@@ -278,6 +381,16 @@ fn copy_tree<S: FlushStore + Drop>(
     ensures folder { opened.new.folder ≡ opened.old.folder }
     ensures piece { vec_len copying.new.piece ≡ vec_len copying.old.piece }
     ensures recursive { copying.new.is_recursive ≡ copying.old.is_recursive }
+    ensures does { MatchResult result
+        (λ done. CopiesTree (S.types_of opened.old.session.store) opened.old.folder (vec_len copying.old.piece) copied.now.path.now copied.now.node
+        copied.now.place.folder copied.now.place.name.now copied.now.place.has_slash opened.old.told opened.new.told copying.old copying.new
+        (S.state_of opened.old.session.store) (S.state_of opened.new.session.store) opened.old.session.volume opened.new.session.volume (Ok tt))
+        (λ fault. LeavesTree (S.types_of opened.old.session.store) opened.old.folder (vec_len copying.old.piece) copied.now.path.now copied.now.node
+        copied.now.place.folder copied.now.place.name.now copied.now.place.has_slash opened.old.told opened.new.told copying.old copying.new
+        (S.state_of opened.old.session.store) (S.state_of opened.new.session.store) opened.old.session.volume opened.new.session.volume
+        ⊎ (EndsLine fault × StopsTree (S.types_of opened.old.session.store) opened.old.folder (vec_len copying.old.piece) copied.now.path.now copied.now.node
+        copied.now.place.folder copied.now.place.name.now copied.now.place.has_slash opened.old.told copying.old
+        (S.state_of opened.old.session.store) (S.state_of opened.new.session.store) opened.old.session.volume opened.new.session.volume)) }
 {
     let view = &opened.session;
     match is_below(view, alloc, copied.place.folder, copied.node.number) {
@@ -307,6 +420,17 @@ fn copy_one<S: FlushStore + Drop>(
         AtPath (CopiesAt (vec_len copying.old.piece) (S.types_of opened.old.session.store) opened.old.folder to.entry.0.now several)
         (IsLeftAt (vec_len copying.old.piece) (S.types_of opened.old.session.store) opened.old.folder to.entry.0.now several) path.now
         (S.state_of opened.old.session.store) (S.state_of opened.new.session.store) opened.old.session.volume opened.new.session.volume result }
+    ensures all { copying.old.is_recursive ≡ true → (several : Bool) → HasGoal (S.state_of opened.old.session.store) opened.old.session.volume
+        opened.old.folder to.entry.0.now several to.entry.1 → MatchResult result
+        (λ done. CopiesAllAt (S.types_of opened.old.session.store) opened.old.folder (vec_len copying.old.piece) to.entry.0.now several path.now
+        opened.old.told opened.new.told copying.old copying.new
+        (S.state_of opened.old.session.store) (S.state_of opened.new.session.store) opened.old.session.volume opened.new.session.volume)
+        (λ fault. LeavesAllAt (S.types_of opened.old.session.store) opened.old.folder (vec_len copying.old.piece) to.entry.0.now several path.now
+        opened.old.told opened.new.told copying.old copying.new
+        (S.state_of opened.old.session.store) (S.state_of opened.new.session.store) opened.old.session.volume opened.new.session.volume
+        ⊎ (EndsLine fault × StopsAllAt (S.types_of opened.old.session.store) opened.old.folder (vec_len copying.old.piece) to.entry.0.now several path.now
+        opened.old.told copying.old
+        (S.state_of opened.old.session.store) (S.state_of opened.new.session.store) opened.old.session.volume opened.new.session.volume)) }
 {
     let (to, goal) = to;
     let is_followed = !copying.is_recursive;
@@ -340,6 +464,10 @@ pub fn copy<S: FlushStore + Drop>(
     ensures folder { opened.new.folder ≡ opened.old.folder }
     ensures does { is_recursive ≡ false →
         CopiesPaths (S.types_of opened.old.session.store) opened.old.folder to.now (nat_lt 1 (length paths.now)) (map (λ path. path.now) paths.now)
+        opened.old.told opened.new.told
+        (S.state_of opened.old.session.store) (S.state_of opened.new.session.store) opened.old.session.volume opened.new.session.volume result }
+    ensures all { is_recursive ≡ true →
+        CopiesTrees (S.types_of opened.old.session.store) opened.old.folder to.now (nat_lt 1 (length paths.now)) (map (λ path. path.now) paths.now)
         opened.old.told opened.new.told
         (S.state_of opened.old.session.store) (S.state_of opened.new.session.store) opened.old.session.volume opened.new.session.volume result }
 {

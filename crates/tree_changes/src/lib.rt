@@ -1,7 +1,7 @@
 //! Words of `xnfs` that change a volume of trees: `mkdir`, `rmdir`, `rm`, `mv`, `ln`, `chmod`, `chown`, `touch`, `truncate`, and `cp` inside the volume.
 //!
-//! It is proved which calls of the session they make, where their paths lead, and what texts of modes, owners and times they read: of `cp` where it doesn't go
-//! below folders. Of the other functions it is proved that they are safe and end.
+//! It is proved which calls of the session they make, where their paths lead and below folders, and what texts of modes, owners and times they read. Of the
+//! other functions it is proved that they are safe and end.
 //! That a file which is copied has its name only with all its bytes is what the calls of a session promise.
 //! May touch: memory.
 #![tactic(auto)]
