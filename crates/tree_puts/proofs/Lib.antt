@@ -3,3 +3,6 @@ mod Arrivals
 mod Whole
 mod Holes
 mod HolePieces
+mod Unchanged
+mod Beside
+mod Foldered

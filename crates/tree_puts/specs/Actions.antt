@@ -15,7 +15,7 @@ use Rattle.treefs_format.specs.declared.kind.Kind.{Kind}
 use Rattle.treefs_model.specs.declared.fault.Fault.{Fault}
 use Rattle.treefs_byte_plans.specs.declared.attributes.Attributes.{Attributes as Settings}
 use Rattle.treefs.specs.Committing.{CommitDoes}
-use Rattle.treefs.specs.Creating.{BeginDoes}
+use Rattle.treefs.specs.Creating.{BeginDoes, MkdirDoes}
 use Rattle.treefs.specs.Linking.{LinkDoes}
 use Rattle.treefs.specs.Renaming.{RenameDoes}
 use Rattle.treefs.specs.Setting.{AttributesDoes, MtimeDoes}
@@ -47,6 +47,8 @@ pub data Action : Type 0 where
   unlinks : ℕ → List ℕ → Result (Unit {0}) Fault → Action
   -- the time of a number is set
   sets_time : ℕ → ℤ → Result (Unit {0}) Fault → Action
+  -- a folder is made under a name in a folder
+  makes_folder : ℕ → List ℕ → Attributes → Result ℕ Fault → Action
   -- permissions, owner and time of a number are set
   sets : ℕ → Settings → Result (Unit {0}) Fault → Action
 
@@ -80,6 +82,9 @@ Does T folder (unlinks directory name result) old new volume volume' =
     old new volume volume' result
 Does T folder (sets_time number mtime result) old new volume volume' =
     MakesFreely (λ old new volume volume' result. MtimeDoes old volume volume' number mtime result × (new ≡ old)) T (folder ∷ [])
+    old new volume volume' result
+Does T folder (makes_folder directory name attributes result) old new volume volume' =
+    MakesFreely (λ old new volume volume' result. MkdirDoes T old new volume volume' directory name attributes result) T (folder ∷ [])
     old new volume volume' result
 Does T folder (sets number settings result) old new volume volume' =
     MakesFreely (λ old new volume volume' result. AttributesDoes T old new volume volume' number settings result) T (folder ∷ [])

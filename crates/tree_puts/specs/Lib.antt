@@ -3,4 +3,8 @@ pub mod Places
 pub mod Holes
 pub mod Arriving
 pub mod Linked
+pub mod Lines
 pub mod Linking
+pub mod Files
+pub mod Folders
+pub mod Trees

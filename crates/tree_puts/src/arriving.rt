@@ -1,6 +1,6 @@
 // One file or symbolic link of the system that is brought in.
 
-ghost use Rattle.std.specs.Prelude.{◌≡◌, ◌<◌, ◌≤◌, IfOk, OnErr, OnOk, length, take, vec_len};
+ghost use Rattle.std.specs.Prelude.{◌≡◌, ◌<◌, ◌≤◌, IfOk, OnErr, OnOk, [], length, take, vec_len};
 ghost use Rattle.tree_puts.specs.Actions.{OrElse, Performs};
 ghost use Rattle.tree_puts.specs.Linked.{Forgets, IsUnnoted, Notes, number_kept};
 ghost use Rattle.tree_puts.specs.Arriving.{BeginsFile, Finishes, HasRights, IsGivenUp, PutsArrived, PutsFile, PutsLink, PutsLong, PutsWhole, SetsAll};
@@ -59,7 +59,9 @@ pub struct Goods<'g> {
 
 impl<'a, H: Host> Arriving<'a, H> {
     /// Nothing is brought in yet.
-    pub fn begin(host: &'a H, alloc: Global, disk: Option<HostAttributes>) -> Arriving<'a, H> {
+    pub fn begin(host: &'a H, alloc: Global, disk: Option<HostAttributes>) -> Arriving<'a, H>
+        ensures { (result.linked.entries ≡ []) × (result.sources.entries ≡ []) }
+    {
         Arriving {
             host,
             alloc,
@@ -237,6 +239,8 @@ impl<'a, H: Host> Arriving<'a, H> {
         ensures types { S.types_of volume.new.session.store ≡ S.types_of volume.old.session.store }
         ensures folder { volume.new.folder ≡ volume.old.folder }
         ensures told { volume.new.told ≡ volume.old.told }
+        ensures linked { self.new.linked ≡ self.old.linked }
+        ensures sources { self.new.sources ≡ self.old.sources }
         ensures does { 384 ≤ length piece.old → first ≤ length piece.old →
             Performs (S.types_of volume.old.session.store) volume.old.folder (WritesWhole block (length piece.old) (take first piece.old) result)
             (S.state_of volume.old.session.store) (S.state_of volume.new.session.store) volume.old.session.volume volume.new.session.volume }
@@ -274,6 +278,8 @@ impl<'a, H: Host> Arriving<'a, H> {
         ensures types { S.types_of volume.new.session.store ≡ S.types_of volume.old.session.store }
         ensures folder { volume.new.folder ≡ volume.old.folder }
         ensures told { volume.new.told ≡ volume.old.told }
+        ensures linked { self.new.linked ≡ self.old.linked }
+        ensures sources { self.new.sources ≡ self.old.sources }
         ensures does { 384 ≤ length piece.old → first ≤ length piece.old →
             Performs (S.types_of volume.old.session.store) volume.old.folder (WritesPieces (is_sparse goods.entry.attributes.now) block
             (length piece.old) (take first piece.old) result)
@@ -298,6 +304,8 @@ impl<'a, H: Host> Arriving<'a, H> {
         ensures types { S.types_of volume.new.session.store ≡ S.types_of volume.old.session.store }
         ensures folder { volume.new.folder ≡ volume.old.folder }
         ensures told { volume.new.told ≡ volume.old.told }
+        ensures linked { self.new.linked ≡ self.old.linked }
+        ensures sources { self.new.sources ≡ self.old.sources }
         ensures does { 384 ≤ length piece.old → first ≤ length piece.old →
             Performs (S.types_of volume.old.session.store) volume.old.folder (Finishes goods.entry block (length piece.old) (take first piece.old) result)
             (S.state_of volume.old.session.store) (S.state_of volume.new.session.store) volume.old.session.volume volume.new.session.volume }
@@ -350,6 +358,8 @@ impl<'a, H: Host> Arriving<'a, H> {
         ensures types { S.types_of volume.new.session.store ≡ S.types_of volume.old.session.store }
         ensures folder { volume.new.folder ≡ volume.old.folder }
         ensures told { volume.new.told ≡ volume.old.told }
+        ensures linked { self.new.linked ≡ self.old.linked }
+        ensures sources { self.new.sources ≡ self.old.sources }
         ensures does { 384 ≤ length piece.old → first ≤ length piece.old →
             Performs (S.types_of volume.old.session.store) volume.old.folder (OrElse (Finishes goods.entry block (length piece.old)
             (take first piece.old)) (IsGivenUp block) result)
@@ -374,6 +384,8 @@ impl<'a, H: Host> Arriving<'a, H> {
         ensures types { S.types_of volume.new.session.store ≡ S.types_of volume.old.session.store }
         ensures folder { volume.new.folder ≡ volume.old.folder }
         ensures told { volume.new.told ≡ volume.old.told }
+        ensures linked { self.new.linked ≡ self.old.linked }
+        ensures sources { self.new.sources ≡ self.old.sources }
         ensures does { 384 ≤ length piece.old → first ≤ length piece.old →
             Performs (S.types_of volume.old.session.store) volume.old.folder (PutsLong goods.entry (length piece.old) (take first piece.old) result)
             (S.state_of volume.old.session.store) (S.state_of volume.new.session.store) volume.old.session.volume volume.new.session.volume }
@@ -394,6 +406,8 @@ impl<'a, H: Host> Arriving<'a, H> {
         ensures types { S.types_of volume.new.session.store ≡ S.types_of volume.old.session.store }
         ensures folder { volume.new.folder ≡ volume.old.folder }
         ensures told { volume.new.told ≡ volume.old.told }
+        ensures linked { self.new.linked ≡ self.old.linked }
+        ensures sources { self.new.sources ≡ self.old.sources }
         ensures does { 384 ≤ length piece.old → first ≤ length piece.old →
             Performs (S.types_of volume.old.session.store) volume.old.folder (PutsArrived goods.entry (length piece.old) (take first piece.old) result)
             (S.state_of volume.old.session.store) (S.state_of volume.new.session.store) volume.old.session.volume volume.new.session.volume }
@@ -419,6 +433,8 @@ impl<'a, H: Host> Arriving<'a, H> {
         ensures types { S.types_of volume.new.session.store ≡ S.types_of volume.old.session.store }
         ensures folder { volume.new.folder ≡ volume.old.folder }
         ensures told { volume.new.told ≡ volume.old.told }
+        ensures kept { Forgets (S.state_of volume.old.session.store) volume.old.session.volume goods.entry.place.folder goods.entry.place.name.now
+            self.old.linked self.new.linked self.old.sources self.new.sources }
         ensures does { 384 ≤ length piece.old →
             Performs (S.types_of volume.old.session.store) volume.old.folder (PutsFile goods.entry (length piece.old) result)
             (S.state_of volume.old.session.store) (S.state_of volume.new.session.store) volume.old.session.volume volume.new.session.volume }
@@ -445,6 +461,8 @@ impl<'a, H: Host> Arriving<'a, H> {
         ensures types { S.types_of volume.new.session.store ≡ S.types_of volume.old.session.store }
         ensures folder { volume.new.folder ≡ volume.old.folder }
         ensures told { volume.new.told ≡ volume.old.told }
+        ensures kept { Forgets (S.state_of volume.old.session.store) volume.old.session.volume goods.entry.place.folder goods.entry.place.name.now
+            self.old.linked self.new.linked self.old.sources self.new.sources }
         ensures does { Performs (S.types_of volume.old.session.store) volume.old.folder (PutsLink goods.entry result)
             (S.state_of volume.old.session.store) (S.state_of volume.new.session.store) volume.old.session.volume volume.new.session.volume }
     {

@@ -3,7 +3,8 @@
 ghost use Rattle.std.specs.Prelude.{◌≡◌, IfOk, None, string_bytes};
 ghost use Rattle.tree_lines.specs.Trees.{IsThereIn};
 ghost use Rattle.tree_puts.specs.Actions.{Performs};
-ghost use Rattle.tree_puts.specs.Linking.{LinksAs, MovesToPlace, TakesBack};
+ghost use Rattle.tree_puts.specs.Lines.{line_of};
+ghost use Rattle.tree_puts.specs.Linking.{GetsName, LinksAs, LinksOver, MovesToPlace, TakesBack};
 
 use crate::arriving::{Arriving, Goods};
 use flush_store::FlushStore;
@@ -42,7 +43,7 @@ pub fn free_name<H: Host, S: FlushStore + Drop>(
 
 /// Gives a file one more name.
 fn link_as<H: Host, S: FlushStore + Drop>(
-    arriving: &mut Arriving<H>,
+    arriving: &Arriving<H>,
     volume: &mut Opened<S>,
     goods: Goods,
     number: u32,
@@ -64,7 +65,7 @@ fn link_as<H: Host, S: FlushStore + Drop>(
 
 /// Has what has a name of its folder take that of a place, also where that is another file's. Where that fails the name is taken away.
 pub fn move_to_place<H: Host, S: FlushStore + Drop>(
-    arriving: &mut Arriving<H>,
+    arriving: &Arriving<H>,
     volume: &mut Opened<S>,
     goods: Goods,
     name: &str,
@@ -91,7 +92,7 @@ pub fn move_to_place<H: Host, S: FlushStore + Drop>(
 
 /// Takes a name of the folder of a place away. That this fails is not told beside the fault that was before.
 pub fn take_back<H: Host, S: FlushStore + Drop>(
-    arriving: &mut Arriving<H>,
+    arriving: &Arriving<H>,
     volume: &mut Opened<S>,
     goods: Goods,
     name: &str,
@@ -114,13 +115,18 @@ pub fn take_back<H: Host, S: FlushStore + Drop>(
 
 /// Gives a file one more name, in the place of what has it: under a name beside it first, which then becomes that one.
 fn link_over<H: Host, S: FlushStore + Drop>(
-    arriving: &mut Arriving<H>,
+    arriving: &Arriving<H>,
     volume: &mut Opened<S>,
     goods: Goods,
     number: u32,
 ) -> Result<(), Fault>
     ensures types { S.types_of volume.new.session.store ≡ S.types_of volume.old.session.store }
     ensures folder { volume.new.folder ≡ volume.old.folder }
+    ensures does { LinksOver goods.entry number result
+        (line_of (S.types_of volume.old.session.store) (S.state_of volume.old.session.store) volume.old.folder volume.old.session.volume
+        volume.old.told arriving.now.linked arriving.now.sources)
+        (line_of (S.types_of volume.new.session.store) (S.state_of volume.new.session.store) volume.new.folder volume.new.session.volume
+        volume.new.told arriving.now.linked arriving.now.sources) }
 {
     let beside = free_name(arriving, volume, goods)?;
     link_as(arriving, volume, goods, number, beside.as_bytes())?;
@@ -136,20 +142,25 @@ pub fn link<H: Host, S: FlushStore + Drop>(
 ) -> Result<(), Fault>
     ensures types { S.types_of volume.new.session.store ≡ S.types_of volume.old.session.store }
     ensures folder { volume.new.folder ≡ volume.old.folder }
+    ensures does { GetsName goods.entry number result
+        (line_of (S.types_of volume.old.session.store) (S.state_of volume.old.session.store) volume.old.folder volume.old.session.volume
+        volume.old.told arriving.old.linked arriving.old.sources)
+        (line_of (S.types_of volume.new.session.store) (S.state_of volume.new.session.store) volume.new.folder volume.new.session.volume
+        volume.new.told arriving.new.linked arriving.new.sources) }
 {
     let node = match there(&volume.session, goods.place) {
         Ok(node) => node,
         Err(reason) => return Err(at_bytes(arriving.alloc, goods.path, reason)),
     };
-    match node {
-        None => link_as(arriving, volume, goods, number, goods.place.name),
-        Some(node) if node.number == number => Ok(()),
-        Some(node) if node.is_folder() => {
-            Err(at_bytes(arriving.alloc, goods.path, Reason::Folder))
-        }
-        Some(_) => {
-            arriving.forget(volume, goods.place);
-            link_over(arriving, volume, goods, number)
-        }
+    let Some(node) = node else {
+        return link_as(arriving, volume, goods, number, goods.place.name);
+    };
+    if node.number == number {
+        return Ok(());
     }
+    if node.is_folder() {
+        return Err(at_bytes(arriving.alloc, goods.path, Reason::Folder));
+    }
+    arriving.forget(volume, goods.place);
+    link_over(arriving, volume, goods, number)
 }

@@ -36,7 +36,7 @@ fn are_zeros(bytes: &[u8]) -> bool
 
 /// Writes some of the bytes that stand from one on of an inode that was begun.
 fn write_run<H: Host, S: FlushStore + Drop>(
-    arriving: &mut Arriving<H>,
+    arriving: &Arriving<H>,
     volume: &mut Opened<S>,
     begun: (Goods, u32),
     written: (u64, &[u8]),
@@ -59,7 +59,7 @@ fn write_run<H: Host, S: FlushStore + Drop>(
 /// Writes the bytes of an inode that was begun which stand from one on, but for its first ones and for parts that are zeros. Answers whether the last part was
 /// left out.
 fn write_piece<H: Host, S: FlushStore + Drop>(
-    arriving: &mut Arriving<H>,
+    arriving: &Arriving<H>,
     volume: &mut Opened<S>,
     begun: (Goods, u32),
     written: (u64, &[u8]),
@@ -89,7 +89,7 @@ fn write_piece<H: Host, S: FlushStore + Drop>(
 
 /// Writes the next piece, if it has bytes. Answers whether the last part that has come was left out, of which that is told for those before.
 fn write_next<H: Host, S: FlushStore + Drop>(
-    arriving: &mut Arriving<H>,
+    arriving: &Arriving<H>,
     volume: &mut Opened<S>,
     begun: (Goods, u32),
     written: (u64, &[u8]),
@@ -112,7 +112,7 @@ fn write_next<H: Host, S: FlushStore + Drop>(
 
 /// Lets an inode that was begun have so many bytes, where zeros at its end were left out.
 fn end_at<H: Host, S: FlushStore + Drop>(
-    arriving: &mut Arriving<H>,
+    arriving: &Arriving<H>,
     volume: &mut Opened<S>,
     begun: (Goods, u32),
     size: u64,
@@ -144,6 +144,8 @@ pub fn write_parts<H: Host, S: FlushStore + Drop, I: Incoming<H>>(
     ensures types { S.types_of volume.new.session.store ≡ S.types_of volume.old.session.store }
     ensures folder { volume.new.folder ≡ volume.old.folder }
     ensures told { volume.new.told ≡ volume.old.told }
+    ensures linked { arriving.new.linked ≡ arriving.old.linked }
+    ensures sources { arriving.new.sources ≡ arriving.old.sources }
     ensures does { 384 ≤ length piece.old → first ≤ length piece.old →
         Performs (S.types_of volume.old.session.store) volume.old.folder (WritesHoles block (length piece.old) (take first piece.old) result)
         (S.state_of volume.old.session.store) (S.state_of volume.new.session.store) volume.old.session.volume volume.new.session.volume }

@@ -1,16 +1,24 @@
 // A folder of the system with all below it is brought in.
 
-ghost use Rattle.std.specs.Prelude.{◌≡◌};
+ghost use Rattle.std.specs.Prelude.{◌≡◌, ◌≤◌, ◌⊎◌, ◌↔◌, IfOk, IsTrue, MatchResult, length};
+ghost use Rattle.tree_lines.specs.Telling.{Tells};
+ghost use Rattle.tree_lines.specs.declared.fault.Fault.{Fault as LineFault};
+ghost use Rattle.tree_puts.specs.Actions.{Performs};
+ghost use Rattle.tree_puts.specs.Files.{IsPutBefore, PutsRegular};
+ghost use Rattle.tree_puts.specs.Folders.{EntersAt, EntersIn, FindsFolder, MakesFolder, ReadsNames, Settles, entered};
+ghost use Rattle.tree_puts.specs.Lines.{line_of};
+ghost use Rattle.tree_puts.specs.Trees.{GoesOver, IsFull, StopsBy};
 
 use crate::arriving::{Arriving, Goods};
 use crate::linking::link;
 use crate::pieces::OpenFile;
 use flush_store::FlushStore;
 use host_trees::{Attributes, Host, Kind, joined};
-use std::alloc::Global;
+use std::alloc::{AllocError, Global};
+use std::io;
 use system_files::WriteFault;
 use tree_lines::{
-    Fault, Opened, Place, Reason, at, at_bytes, at_word, below, not_written, system, there,
+    Fault, Opened, Place, Reason, Told, at, at_bytes, at_word, below, not_written, system, there,
 };
 use treefs_session::Mkdir;
 
@@ -37,71 +45,129 @@ pub struct Frame {
     waiting: Vec<String>,
 }
 
+/// What is told of a folder of the system that has so many names that are no text.
+fn odd_fault(alloc: Global, source: &str, odd: u64) -> Option<Fault> {
+    if odd == 0 {
+        return None;
+    }
+    Some(at_word(
+        alloc,
+        source,
+        "has names that are no text, and they are left out",
+    ))
+}
+
+/// What is told of a folder of the system whose names could not all be read.
+fn unread_fault(alloc: Global, source: &str, error: Option<io::Error>) -> Option<Fault> {
+    match error {
+        Some(error) => Some(system(alloc, source.as_bytes(), error)),
+        None => None,
+    }
+}
+
+/// Tells a fault, if there is one.
+fn tell_if(told: &mut Told, fault: Option<Fault>) -> Result<(), AllocError>
+    ensures { IfOk result (λ done. (told.new ≡ told.old) ⊎ ((fault : LineFault) × Tells told.old told.new fault)) }
+{
+    match fault {
+        Some(fault) => told.tell(fault),
+        None => Ok(()),
+    }
+}
+
 /// The names of a folder of the system, the last one first. Those that are no text are told, and so is what could not be read.
 fn names_of<H: Host, S: FlushStore + Drop>(
-    arriving: &mut Arriving<H>,
+    arriving: &Arriving<H>,
     volume: &mut Opened<S>,
     source: &str,
 ) -> Result<Vec<String>, Fault>
     ensures types { S.types_of volume.new.session.store ≡ S.types_of volume.old.session.store }
     ensures folder { volume.new.folder ≡ volume.old.folder }
+    ensures does { ReadsNames result
+        (line_of (S.types_of volume.old.session.store) (S.state_of volume.old.session.store) volume.old.folder volume.old.session.volume
+        volume.old.told arriving.now.linked arriving.now.sources)
+        (line_of (S.types_of volume.new.session.store) (S.state_of volume.new.session.store) volume.new.folder volume.new.session.volume
+        volume.new.told arriving.now.linked arriving.now.sources) }
 {
     let alloc = arriving.alloc;
     let found = match arriving.host.names(alloc, source) {
         Ok(found) => found,
         Err(error) => return Err(system(alloc, source.as_bytes(), error)),
     };
-    if found.odd > 0 {
-        let fault = at_word(
-            alloc,
-            source,
-            "has names that are no text, and they are left out",
-        );
-        volume.told.tell(fault)?;
-    }
-    if let Some(error) = found.fault {
-        let fault = system(alloc, source.as_bytes(), error);
-        volume.told.tell(fault)?;
-    }
+    let odd = odd_fault(alloc, source, found.odd);
+    tell_if(&mut volume.told, odd)?;
+    let unread = unread_fault(alloc, source, found.fault);
+    tell_if(&mut volume.told, unread)?;
     let mut names = found.names;
     names.reverse();
     Ok(names)
 }
 
-/// The folder of a volume that a folder of the system goes to, which is made where nothing is, and what is set of it at the end.
-fn folder_at<H: Host, S: FlushStore + Drop>(
-    arriving: &mut Arriving<H>,
+/// Makes a folder at a place, with what the system tells of its own one, and answers its number.
+fn new_folder<H: Host, S: FlushStore + Drop>(
+    arriving: &Arriving<H>,
     volume: &mut Opened<S>,
     goods: Goods,
-) -> Result<(u32, AtEnd), Fault>
+) -> Result<u32, Fault>
     ensures types { S.types_of volume.new.session.store ≡ S.types_of volume.old.session.store }
     ensures folder { volume.new.folder ≡ volume.old.folder }
+    ensures told { volume.new.told ≡ volume.old.told }
+    ensures does { Performs (S.types_of volume.old.session.store) volume.old.folder (MakesFolder goods.entry result)
+        (S.state_of volume.old.session.store) (S.state_of volume.new.session.store) volume.old.session.volume volume.new.session.volume }
 {
-    let alloc = arriving.alloc;
-    match there(&volume.session, goods.place) {
-        Ok(Some(node)) if node.is_folder() => return Ok((node.number, AtEnd::All)),
-        Ok(Some(_)) => return Err(at_bytes(alloc, goods.path, Reason::NoFolder)),
-        Ok(None) => {}
-        Err(reason) => return Err(at_bytes(alloc, goods.path, reason)),
-    }
     let attributes = arriving.new_attributes(volume, goods.attributes);
     let mkdir = Mkdir {
         directory: goods.place.folder,
         name: goods.place.name,
         attributes,
     };
-    let number = volume.make_name(alloc, goods.path, &mkdir)?;
-    Ok((number, AtEnd::Time))
+    volume.make_name(arriving.alloc, goods.path, &mkdir)
+}
+
+/// The folder of a volume that a folder of the system goes to, which is made where nothing is, and what is set of it at the end.
+fn folder_at<H: Host, S: FlushStore + Drop>(
+    arriving: &Arriving<H>,
+    volume: &mut Opened<S>,
+    goods: Goods,
+) -> Result<(u32, AtEnd), Fault>
+    ensures types { S.types_of volume.new.session.store ≡ S.types_of volume.old.session.store }
+    ensures folder { volume.new.folder ≡ volume.old.folder }
+    ensures does { FindsFolder goods.entry result
+        (line_of (S.types_of volume.old.session.store) (S.state_of volume.old.session.store) volume.old.folder volume.old.session.volume
+        volume.old.told arriving.now.linked arriving.now.sources)
+        (line_of (S.types_of volume.new.session.store) (S.state_of volume.new.session.store) volume.new.folder volume.new.session.volume
+        volume.new.told arriving.now.linked arriving.now.sources) }
+{
+    let alloc = arriving.alloc;
+    let found = match there(&volume.session, goods.place) {
+        Ok(found) => found,
+        Err(reason) => return Err(at_bytes(alloc, goods.path, reason)),
+    };
+    let Some(node) = found else {
+        return match new_folder(arriving, volume, goods) {
+            Ok(number) => Ok((number, AtEnd::Time)),
+            Err(fault) => Err(fault),
+        };
+    };
+    if node.is_folder() {
+        return Ok((node.number, AtEnd::All));
+    }
+    Err(at_bytes(alloc, goods.path, Reason::NoFolder))
 }
 
 /// Begins with a folder that goes to a place.
 pub fn enter<H: Host, S: FlushStore + Drop>(
-    arriving: &mut Arriving<H>,
+    arriving: &Arriving<H>,
     volume: &mut Opened<S>,
     goods: Goods,
 ) -> Result<Frame, Fault>
     ensures types { S.types_of volume.new.session.store ≡ S.types_of volume.old.session.store }
     ensures folder { volume.new.folder ≡ volume.old.folder }
+    ensures does { EntersAt goods.entry result
+        (line_of (S.types_of volume.old.session.store) (S.state_of volume.old.session.store) volume.old.folder volume.old.session.volume
+        volume.old.told arriving.now.linked arriving.now.sources)
+        (line_of (S.types_of volume.new.session.store) (S.state_of volume.new.session.store) volume.new.folder volume.new.session.volume
+        volume.new.told arriving.now.linked arriving.now.sources) }
 {
     let waiting = names_of(arriving, volume, goods.source)?;
     let (number, at_end) = folder_at(arriving, volume, goods)?;
@@ -117,7 +183,7 @@ pub fn enter<H: Host, S: FlushStore + Drop>(
 
 /// Begins with a folder that fills one that is there, by its number.
 pub fn enter_there<H: Host, S: FlushStore + Drop>(
-    arriving: &mut Arriving<H>,
+    arriving: &Arriving<H>,
     volume: &mut Opened<S>,
     from: (&str, &Attributes),
     path: &[u8],
@@ -125,6 +191,11 @@ pub fn enter_there<H: Host, S: FlushStore + Drop>(
 ) -> Result<Frame, Fault>
     ensures types { S.types_of volume.new.session.store ≡ S.types_of volume.old.session.store }
     ensures folder { volume.new.folder ≡ volume.old.folder }
+    ensures does { EntersIn number from.entry.1.now result
+        (line_of (S.types_of volume.old.session.store) (S.state_of volume.old.session.store) volume.old.folder volume.old.session.volume
+        volume.old.told arriving.now.linked arriving.now.sources)
+        (line_of (S.types_of volume.new.session.store) (S.state_of volume.new.session.store) volume.new.folder volume.new.session.volume
+        volume.new.told arriving.now.linked arriving.now.sources) }
 {
     let (source, attributes) = from;
     Ok(Frame {
@@ -139,12 +210,17 @@ pub fn enter_there<H: Host, S: FlushStore + Drop>(
 
 /// Ends with a folder that is full.
 fn settle<H: Host, S: FlushStore + Drop>(
-    arriving: &mut Arriving<H>,
+    arriving: &Arriving<H>,
     volume: &mut Opened<S>,
     frame: &Frame,
 ) -> Result<(), Fault>
     ensures types { S.types_of volume.new.session.store ≡ S.types_of volume.old.session.store }
     ensures folder { volume.new.folder ≡ volume.old.folder }
+    ensures does { Settles (entered frame.now) result
+        (line_of (S.types_of volume.old.session.store) (S.state_of volume.old.session.store) volume.old.folder volume.old.session.volume
+        volume.old.told arriving.now.linked arriving.now.sources)
+        (line_of (S.types_of volume.new.session.store) (S.state_of volume.new.session.store) volume.new.folder volume.new.session.volume
+        volume.new.told arriving.now.linked arriving.now.sources) }
 {
     match frame.at_end {
         AtEnd::Nothing => Ok(()),
@@ -166,6 +242,11 @@ pub fn is_done<H: Host, S: FlushStore + Drop>(
 ) -> Result<bool, Fault>
     ensures types { S.types_of volume.new.session.store ≡ S.types_of volume.old.session.store }
     ensures folder { volume.new.folder ≡ volume.old.folder }
+    ensures does { IsPutBefore goods.entry result
+        (line_of (S.types_of volume.old.session.store) (S.state_of volume.old.session.store) volume.old.folder volume.old.session.volume
+        volume.old.told arriving.old.linked arriving.old.sources)
+        (line_of (S.types_of volume.new.session.store) (S.state_of volume.new.session.store) volume.new.folder volume.new.session.volume
+        volume.new.told arriving.new.linked arriving.new.sources) }
 {
     if let Some(disk) = &arriving.disk
         && disk.is_same(goods.attributes)
@@ -195,6 +276,11 @@ pub fn put_regular<H: Host, S: FlushStore + Drop>(
 ) -> Result<(), Fault>
     ensures types { S.types_of volume.new.session.store ≡ S.types_of volume.old.session.store }
     ensures folder { volume.new.folder ≡ volume.old.folder }
+    ensures does { 384 ≤ length piece.old → PutsRegular goods.entry (length piece.old) result
+        (line_of (S.types_of volume.old.session.store) (S.state_of volume.old.session.store) volume.old.folder volume.old.session.volume
+        volume.old.told arriving.old.linked arriving.old.sources)
+        (line_of (S.types_of volume.new.session.store) (S.state_of volume.new.session.store) volume.new.folder volume.new.session.volume
+        volume.new.told arriving.new.linked arriving.new.sources) }
 {
     let mut incoming: OpenFile<H> = OpenFile { file };
     let number = arriving.put_file(volume, goods, &mut incoming, piece)?;
@@ -231,6 +317,33 @@ fn put_file_below<H: Host, S: FlushStore + Drop>(
     }
 }
 
+/// Brings in what the system tells of. Answers the folder that it is, where it is one.
+fn put_goods<H: Host, S: FlushStore + Drop>(
+    arriving: &mut Arriving<H>,
+    volume: &mut Opened<S>,
+    goods: Goods,
+    piece: &mut [u8],
+) -> Result<Option<Frame>, Fault>
+    ensures types { S.types_of volume.new.session.store ≡ S.types_of volume.old.session.store }
+    ensures folder { volume.new.folder ≡ volume.old.folder }
+{
+    match goods.attributes.kind {
+        Kind::Folder => match enter(arriving, volume, goods) {
+            Ok(frame) => Ok(Some(frame)),
+            Err(fault) => Err(fault),
+        },
+        Kind::File => match put_file_below(arriving, volume, goods, piece) {
+            Ok(()) => Ok(None),
+            Err(fault) => Err(fault),
+        },
+        Kind::SymbolicLink => match arriving.put_link(volume, goods) {
+            Ok(()) => Ok(None),
+            Err(fault) => Err(fault),
+        },
+        Kind::Other => Err(at(arriving.alloc, goods.source, Reason::Special)),
+    }
+}
+
 /// Brings a name of a folder in. Answers the folder that it is, where it is one.
 fn put_name<H: Host, S: FlushStore + Drop>(
     arriving: &mut Arriving<H>,
@@ -260,17 +373,13 @@ fn put_name<H: Host, S: FlushStore + Drop>(
         source: source.as_str(),
         attributes: &attributes,
     };
-    match attributes.kind {
-        Kind::Folder => return Ok(Some(enter(arriving, volume, goods)?)),
-        Kind::File => put_file_below(arriving, volume, goods, piece)?,
-        Kind::SymbolicLink => arriving.put_link(volume, goods)?,
-        Kind::Other => return Err(at(alloc, source.as_str(), Reason::Special)),
-    }
-    Ok(None)
+    put_goods(arriving, volume, goods, piece)
 }
 
 /// Whether nothing more can be brought in after a fault, though the volume is as good as ever.
-fn is_full(fault: &Fault) -> bool {
+fn is_full(fault: &Fault) -> bool
+    ensures { IsTrue result ↔ IsFull fault.now }
+{
     matches!(
         fault,
         Fault::At {
@@ -281,47 +390,68 @@ fn is_full(fault: &Fault) -> bool {
 }
 
 /// Keeps a fault after which the next name is brought in, and passes those on after which that can't be.
-fn go_on<H: Host, S: FlushStore + Drop>(
-    arriving: &mut Arriving<H>,
-    volume: &mut Opened<S>,
-    fault: Fault,
-) -> Result<(), Fault>
-    ensures types { S.types_of volume.new.session.store ≡ S.types_of volume.old.session.store }
-    ensures folder { volume.new.folder ≡ volume.old.folder }
+fn go_on(told: &mut Told, fault: Fault) -> Result<(), Fault>
+    ensures { MatchResult result (λ done. GoesOver fault told.old told.new) (λ last. StopsBy fault last) }
 {
     if is_full(&fault) {
         return Err(fault);
     }
-    volume.told.go_on(Err(fault))
+    told.go_on(Err(fault))
 }
 
-/// Brings the next name of the last of some folders in, or ends with that.
-fn step<H: Host, S: FlushStore + Drop>(
+/// Ends with the last folder, and tells where that fails.
+fn leave<H: Host, S: FlushStore + Drop>(
+    arriving: &Arriving<H>,
+    volume: &mut Opened<S>,
+    last: &Frame,
+) -> Result<(), Fault>
+    ensures types { S.types_of volume.new.session.store ≡ S.types_of volume.old.session.store }
+    ensures folder { volume.new.folder ≡ volume.old.folder }
+{
+    match settle(arriving, volume, last) {
+        Ok(()) => Ok(()),
+        Err(fault) => go_on(&mut volume.told, fault),
+    }
+}
+
+/// Brings the next name of the last folder in, which goes back to those above it; where that fails it is told.
+fn bring_next<H: Host, S: FlushStore + Drop>(
     arriving: &mut Arriving<H>,
     volume: &mut Opened<S>,
     frames: &mut Vec<Frame>,
+    last: Frame,
+    name: &str,
     piece: &mut [u8],
 ) -> Result<(), Fault>
     ensures types { S.types_of volume.new.session.store ≡ S.types_of volume.old.session.store }
     ensures folder { volume.new.folder ≡ volume.old.folder }
 {
-    let Some(mut frame) = frames.pop() else {
-        return Ok(());
-    };
-    let Some(name) = frame.waiting.pop() else {
-        return match settle(arriving, volume, &frame) {
-            Ok(()) => Ok(()),
-            Err(fault) => go_on(arriving, volume, fault),
-        };
-    };
-    let folder = (frame.source.as_str(), frame.path.as_slice(), frame.number);
-    let done = put_name(arriving, volume, folder, name.as_str(), piece);
-    frames.push(frame)?;
+    let folder = (last.source.as_str(), last.path.as_slice(), last.number);
+    let done = put_name(arriving, volume, folder, name, piece);
+    frames.push(last)?;
     match done {
         Ok(Some(next)) => Ok(frames.push(next)?),
         Ok(None) => Ok(()),
-        Err(fault) => go_on(arriving, volume, fault),
+        Err(fault) => go_on(&mut volume.told, fault),
     }
+}
+
+/// Brings the next name of the last folder in, which stands below some others; or ends with that folder, where no name waits.
+fn step<H: Host, S: FlushStore + Drop>(
+    arriving: &mut Arriving<H>,
+    volume: &mut Opened<S>,
+    frames: &mut Vec<Frame>,
+    last: Frame,
+    piece: &mut [u8],
+) -> Result<(), Fault>
+    ensures types { S.types_of volume.new.session.store ≡ S.types_of volume.old.session.store }
+    ensures folder { volume.new.folder ≡ volume.old.folder }
+{
+    let mut last = last;
+    let Some(name) = last.waiting.pop() else {
+        return leave(arriving, volume, &last);
+    };
+    bring_next(arriving, volume, frames, last, name.as_str(), piece)
 }
 
 /// Brings a folder of the system with all below it in, name by name. A name that can't be brought in is told and left out.
@@ -338,10 +468,10 @@ pub fn put_folder<H: Host, S: FlushStore + Drop>(
     let mut frames = Vec::new(alloc);
     frames.push(frame)?;
     for _step in 0..u64::MAX {
-        if frames.is_empty() {
+        let Some(last) = frames.pop() else {
             break;
-        }
-        step(arriving, volume, &mut frames, piece)?;
+        };
+        step(arriving, volume, &mut frames, last, piece)?;
     }
     Ok(())
 }
