@@ -1,2 +1,3 @@
 mod ShellTurns
 mod WordCases
+mod Statuses

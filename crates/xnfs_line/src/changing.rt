@@ -1,6 +1,6 @@
 // Words that change a volume.
 
-ghost use Rattle.std.specs.Prelude.{◌≡◌, is_some, map};
+ghost use Rattle.std.specs.Prelude.{◌≡◌, map, option_copied};
 ghost use Rattle.xnfs_line.specs.Words.{ModesDo, NamesDo, OwnersDo, TimesDo, WordDoes};
 
 use flush_store::FlushStore;
@@ -43,7 +43,7 @@ fn change_mode<S: FlushStore + Drop>(
 ) -> Result<(), Fault>
     ensures types { S.types_of opened.new.session.store ≡ S.types_of opened.old.session.store }
     ensures folder { opened.new.folder ≡ opened.old.folder }
-    ensures does { ModesDo (S.types_of opened.old.session.store) opened.old.folder (map (λ path. path.now) told.entry.1.now) is_recursive
+    ensures does { ModesDo (S.types_of opened.old.session.store) opened.old.folder told.entry.0.now (map (λ path. path.now) told.entry.1.now) is_recursive
         opened.old.told opened.new.told (S.state_of opened.old.session.store) (S.state_of opened.new.session.store)
         opened.old.session.volume opened.new.session.volume result }
 {
@@ -63,7 +63,7 @@ fn change_owner<S: FlushStore + Drop>(
 ) -> Result<(), Fault>
     ensures types { S.types_of opened.new.session.store ≡ S.types_of opened.old.session.store }
     ensures folder { opened.new.folder ≡ opened.old.folder }
-    ensures does { OwnersDo (S.types_of opened.old.session.store) opened.old.folder (map (λ path. path.now) told.entry.1.now) is_recursive
+    ensures does { OwnersDo (S.types_of opened.old.session.store) opened.old.folder told.entry.0.now (map (λ path. path.now) told.entry.1.now) is_recursive
         opened.old.told opened.new.told (S.state_of opened.old.session.store) (S.state_of opened.new.session.store)
         opened.old.session.volume opened.new.session.volume result }
 {
@@ -85,7 +85,7 @@ fn set_times<S: FlushStore + Drop>(
 ) -> Result<(), Fault>
     ensures types { S.types_of opened.new.session.store ≡ S.types_of opened.old.session.store }
     ensures folder { opened.new.folder ≡ opened.old.folder }
-    ensures does { TimesDo (S.types_of opened.old.session.store) opened.old.folder (map (λ path. path.now) paths.now) (is_some date.entry)
+    ensures does { TimesDo (S.types_of opened.old.session.store) opened.old.folder (option_copied date.entry) (map (λ path. path.now) paths.now)
         opened.old.told opened.new.told (S.state_of opened.old.session.store) (S.state_of opened.new.session.store)
         opened.old.session.volume opened.new.session.volume result }
 {

@@ -1,8 +1,9 @@
 // A line of the program.
 
-ghost use Rattle.std.specs.Prelude.{◌≡◌, IfOk, length};
+ghost use Rattle.std.specs.Prelude.{◌≡◌, ◌⊎◌, IfOk, length};
 ghost use Rattle.flush_store.specs.Written.{AllWritten};
 ghost use Rattle.treefs_session.specs.Opening.{Closes};
+ghost use Rattle.xnfs_line.specs.Lines.{AskedDoes, ChangesVolume, IsReady, WordIsRun, shell_of};
 
 use crate::changing::Sources;
 use crate::fault::LineFault;
@@ -55,7 +56,7 @@ fn file_system(number: u8) -> Result<Fs, LineFault> {
 
 /// Tells what a line has left out, and answers its status.
 fn status_of(told: &[Fault], image: &str, out: &mut impl Write, err: &mut impl Write) -> u8
-    ensures { result ≡ 0 → length told.now ≡ 0 }
+    ensures { ((result ≡ 0) × (length told.now ≡ 0)) ⊎ (result ≡ 1) }
 {
     for fault in told {
         let _ = tell(out, err, image, fault);
@@ -124,6 +125,42 @@ fn look_at_first<H: Host, S: FlushStore + Drop>(
     Ok(status)
 }
 
+/// Whether a word has the lines of a shell; and whether what they do is written at the end alone.
+fn shell_of(word: &Word) -> Option<bool>
+    ensures { result ≡ shell_of word.now }
+{
+    match word {
+        Word::Shell { is_lazy } => Some(*is_lazy),
+        _ => None,
+    }
+}
+
+/// Does what the word of a line asks for on an open volume, tells what was left out, and answers the status.
+fn run_alone<H: Host, S: FlushStore + Drop>(
+    host: &H,
+    opened: &mut Opened<S>,
+    alloc: Global,
+    asked: &Asked,
+    input: &mut impl Read,
+    out: &mut impl Write,
+    err: &mut impl Write,
+) -> Result<u8, LineFault>
+    ensures types { S.types_of opened.new.session.store ≡ S.types_of opened.old.session.store }
+    ensures does { WordIsRun (S.types_of opened.old.session.store) asked.now.word opened.old.folder opened.new.folder
+        (S.state_of opened.old.session.store) (S.state_of opened.new.session.store) opened.old.session.volume opened.new.session.volume
+        opened.old.told result }
+{
+    let image = asked.image;
+    let sources = Sources {
+        disk: image,
+        has_lines: false,
+    };
+    let done = run_word(host, opened, alloc, (&asked.word, sources), input, out);
+    let status = status_of(&opened.told.take(alloc), image, out, err);
+    done?;
+    Ok(status)
+}
+
 /// Does what the word of a line, or of each line of a shell, asks for on an open volume, and answers the status.
 fn run_opened<H: Host, S: FlushStore + Drop>(
     outside: (&H, &impl Clock),
@@ -133,24 +170,21 @@ fn run_opened<H: Host, S: FlushStore + Drop>(
     input: &mut impl BufRead,
     out: &mut impl Write,
     err: &mut impl Write,
-) -> Result<u8, LineFault> {
-    let image = asked.image;
-    if let Word::Shell { is_lazy } = &asked.word {
-        let shell = Shell {
-            image,
-            is_lazy: *is_lazy,
-            terminal: asked.terminal,
-        };
-        return run_shell(outside, opened, alloc, shell, input, out, err);
-    }
-    let sources = Sources {
-        disk: image,
-        has_lines: false,
+) -> Result<u8, LineFault>
+    ensures types { S.types_of opened.new.session.store ≡ S.types_of opened.old.session.store }
+    ensures does { AskedDoes (S.types_of opened.old.session.store) asked.now.word opened.old.folder opened.new.folder
+        (S.state_of opened.old.session.store) (S.state_of opened.new.session.store) opened.old.session.volume opened.new.session.volume
+        opened.old.told result }
+{
+    let Some(is_lazy) = shell_of(&asked.word) else {
+        return run_alone(outside.0, opened, alloc, asked, input, out, err);
     };
-    let done = run_word(outside.0, opened, alloc, (&asked.word, sources), input, out);
-    let status = status_of(&opened.told.take(alloc), image, out, err);
-    done?;
-    Ok(status)
+    let shell = Shell {
+        image: asked.image,
+        is_lazy,
+        terminal: asked.terminal,
+    };
+    run_shell(outside, opened, alloc, shell, input, out, err)
 }
 
 /// Looks at a volume of trees before it is opened to be changed, and answers the store, and whether the volume is to be mended though it was closed. It stays
@@ -210,9 +244,31 @@ fn close_behind<S: FlushStore + Drop>(
     }
 }
 
-/// Does what a word asks for on a volume of trees that is not damaged, mended where a crash left it or a repair is asked for, and closes that. Answers the
-/// status, or the fault that ended the word, with the store: all that was done is on the disk then. The fault is that of an opening or a closing, or of a disk
-/// that fails.
+/// Opens a volume of trees that is not damaged, mended where a crash left it or a repair is asked for. The fault is that of a look before, of the opening, or
+/// of a disk that fails.
+fn open_volume<S: FlushStore + Drop>(
+    alloc: Global,
+    volume: (S, BlockTypes, SystemFault),
+    asked: &Asked,
+    out: &mut impl Write,
+) -> Result<Opened<S>, LineFault>
+    ensures types { IfOk result (λ opened. S.types_of opened.session.store ≡ S.types_of volume.0) }
+    ensures ready { IfOk result (λ opened. IsReady (S.types_of volume.0) asked.now.fs volume.1 asked.now.time
+        (S.state_of volume.0) (S.state_of opened.session.store) opened.session.volume) }
+    ensures fresh { IfOk result (λ opened. (opened.folder ≡ 1) × (length opened.told.faults.items ≡ 0)) }
+{
+    let (store, types, system) = volume;
+    let (store, is_to_mend) = look_before(alloc, (store, types), asked, out)?;
+    let place = (asked.fs, types, asked.time);
+    let mut opened = Opened::open(alloc, store, place, Some(system))?;
+    if is_to_mend {
+        opened.mend(alloc)?;
+    }
+    Ok(opened)
+}
+
+/// Does what a word asks for on a volume of trees, opened as `open_volume` does it, and closes that. Answers the status, or the fault that ended the word, with
+/// the store: all that was done is on the disk then. The fault is that of an opening or a closing, or of a disk that fails.
 fn change_trees<H: Host, S: FlushStore + Drop>(
     outside: (&H, &impl Clock),
     alloc: Global,
@@ -222,15 +278,12 @@ fn change_trees<H: Host, S: FlushStore + Drop>(
     out: &mut impl Write,
     err: &mut impl Write,
 ) -> Result<(Result<u8, LineFault>, S), LineFault>
+    ensures types { IfOk result (λ ended. S.types_of ended.1 ≡ S.types_of volume.0) }
+    ensures does { IfOk result (λ ended. ChangesVolume (S.types_of volume.0) asked.now.fs volume.1 asked.now.time asked.now.word
+        (S.state_of volume.0) (S.state_of ended.1) ended.0) }
     ensures written { IfOk result (λ ended. AllWritten (S.state_of ended.1).lives) }
 {
-    let (store, types, system) = volume;
-    let (store, is_to_mend) = look_before(alloc, (store, types), asked, out)?;
-    let place = (asked.fs, types, asked.time);
-    let mut opened = Opened::open(alloc, store, place, Some(system))?;
-    if is_to_mend {
-        opened.mend(alloc)?;
-    }
+    let mut opened = open_volume(alloc, volume, asked, out)?;
     let done = run_opened(outside, &mut opened, alloc, asked, input, out, err);
     close_behind(alloc, opened, done, asked.image, out, err)
 }

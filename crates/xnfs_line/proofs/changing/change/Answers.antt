@@ -24,5 +24,5 @@ returns-in-ChangeMode-clause-does g c =
     let after = c.change_mode.new.opened in
     subst (λ w. WordDoes T before.folder w before.told after.told old new before.session.volume after.session.volume c.change_mode.result)
     (sym c.in-ChangeMode.is)
-    (subst (λ paths. ModesDo T before.folder (map (λ path. path.now) paths) c.in-ChangeMode.is_recursive before.told after.told old new before.session.volume
+    (subst (λ paths. ModesDo T before.folder c.in-ChangeMode.mode.now (map (λ path. path.now) paths) c.in-ChangeMode.is_recursive before.told after.told old new before.session.volume
     after.session.volume c.change_mode.result) c.deref.ensures.value c.change_mode.ensures.does)
