@@ -6,3 +6,5 @@ mod HolePieces
 mod Unchanged
 mod Beside
 mod Foldered
+mod Stepped
+mod Going

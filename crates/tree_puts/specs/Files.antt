@@ -61,4 +61,5 @@ PutsOnce goods room result a b =
 abbrev pub PutsBelow : {E : Type 0} → Goods → ℕ → Result (Unit {0}) E → LineState → LineState → Type 0
 PutsBelow goods room result a b = (IsErr result × Stays a b)
     ⊎ (GetsOther goods result a b
-    ⊎ (IsNew goods a × ((opened : Goods) × (opened.place ≡ goods.place) × PutsRegular opened room result a b)))
+    ⊎ (IsNew goods a × ((opened : Goods) × (between : LineState) × (opened.place ≡ goods.place) × Stays a between
+    × PutsRegular opened room result between b)))

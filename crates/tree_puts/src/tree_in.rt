@@ -1,13 +1,13 @@
 // A folder of the system with all below it is brought in.
 
-ghost use Rattle.std.specs.Prelude.{◌≡◌, ◌≤◌, ◌⊎◌, ◌↔◌, IfOk, IsTrue, MatchResult, length};
+ghost use Rattle.std.specs.Prelude.{◌≡◌, ◌≤◌, ◌⊎◌, ◌↔◌, IfOk, IsTrue, MatchResult, length, map};
 ghost use Rattle.tree_lines.specs.Telling.{Tells};
 ghost use Rattle.tree_lines.specs.declared.fault.Fault.{Fault as LineFault};
 ghost use Rattle.tree_puts.specs.Actions.{Performs};
-ghost use Rattle.tree_puts.specs.Files.{IsPutBefore, PutsRegular};
+ghost use Rattle.tree_puts.specs.Files.{IsPutBefore, PutsBelow, PutsRegular};
 ghost use Rattle.tree_puts.specs.Folders.{EntersAt, EntersIn, FindsFolder, MakesFolder, ReadsNames, Settles, entered};
 ghost use Rattle.tree_puts.specs.Lines.{line_of};
-ghost use Rattle.tree_puts.specs.Trees.{GoesOver, IsFull, StopsBy};
+ghost use Rattle.tree_puts.specs.Trees.{Brings, BringsGoods, BringsNext, GoesOver, IsFull, Leaves, PutsFolder, StepsOn, StopsBy};
 
 use crate::arriving::{Arriving, Goods};
 use crate::linking::link;
@@ -297,6 +297,11 @@ fn put_file_below<H: Host, S: FlushStore + Drop>(
 ) -> Result<(), Fault>
     ensures types { S.types_of volume.new.session.store ≡ S.types_of volume.old.session.store }
     ensures folder { volume.new.folder ≡ volume.old.folder }
+    ensures does { 384 ≤ length piece.old → PutsBelow goods.entry (length piece.old) result
+        (line_of (S.types_of volume.old.session.store) (S.state_of volume.old.session.store) volume.old.folder volume.old.session.volume
+        volume.old.told arriving.old.linked arriving.old.sources)
+        (line_of (S.types_of volume.new.session.store) (S.state_of volume.new.session.store) volume.new.folder volume.new.session.volume
+        volume.new.told arriving.new.linked arriving.new.sources) }
 {
     if is_done(arriving, volume, goods)? {
         return Ok(());
@@ -326,6 +331,11 @@ fn put_goods<H: Host, S: FlushStore + Drop>(
 ) -> Result<Option<Frame>, Fault>
     ensures types { S.types_of volume.new.session.store ≡ S.types_of volume.old.session.store }
     ensures folder { volume.new.folder ≡ volume.old.folder }
+    ensures does { 384 ≤ length piece.old → BringsGoods (length piece.old) goods.entry result
+        (line_of (S.types_of volume.old.session.store) (S.state_of volume.old.session.store) volume.old.folder volume.old.session.volume
+        volume.old.told arriving.old.linked arriving.old.sources)
+        (line_of (S.types_of volume.new.session.store) (S.state_of volume.new.session.store) volume.new.folder volume.new.session.volume
+        volume.new.told arriving.new.linked arriving.new.sources) }
 {
     match goods.attributes.kind {
         Kind::Folder => match enter(arriving, volume, goods) {
@@ -354,6 +364,11 @@ fn put_name<H: Host, S: FlushStore + Drop>(
 ) -> Result<Option<Frame>, Fault>
     ensures types { S.types_of volume.new.session.store ≡ S.types_of volume.old.session.store }
     ensures folder { volume.new.folder ≡ volume.old.folder }
+    ensures does { 384 ≤ length piece.old → Brings (length piece.old) frame.entry.2 name.now result
+        (line_of (S.types_of volume.old.session.store) (S.state_of volume.old.session.store) volume.old.folder volume.old.session.volume
+        volume.old.told arriving.old.linked arriving.old.sources)
+        (line_of (S.types_of volume.new.session.store) (S.state_of volume.new.session.store) volume.new.folder volume.new.session.volume
+        volume.new.told arriving.new.linked arriving.new.sources) }
 {
     let alloc = arriving.alloc;
     let (source, path, folder) = frame;
@@ -407,6 +422,11 @@ fn leave<H: Host, S: FlushStore + Drop>(
 ) -> Result<(), Fault>
     ensures types { S.types_of volume.new.session.store ≡ S.types_of volume.old.session.store }
     ensures folder { volume.new.folder ≡ volume.old.folder }
+    ensures does { Leaves (entered last.now) result
+        (line_of (S.types_of volume.old.session.store) (S.state_of volume.old.session.store) volume.old.folder volume.old.session.volume
+        volume.old.told arriving.now.linked arriving.now.sources)
+        (line_of (S.types_of volume.new.session.store) (S.state_of volume.new.session.store) volume.new.folder volume.new.session.volume
+        volume.new.told arriving.now.linked arriving.now.sources) }
 {
     match settle(arriving, volume, last) {
         Ok(()) => Ok(()),
@@ -425,6 +445,12 @@ fn bring_next<H: Host, S: FlushStore + Drop>(
 ) -> Result<(), Fault>
     ensures types { S.types_of volume.new.session.store ≡ S.types_of volume.old.session.store }
     ensures folder { volume.new.folder ≡ volume.old.folder }
+    ensures does { 384 ≤ length piece.old → BringsNext (length piece.old) (map entered frames.old.items) (entered last) name.now
+        (map entered frames.new.items) result
+        (line_of (S.types_of volume.old.session.store) (S.state_of volume.old.session.store) volume.old.folder volume.old.session.volume
+        volume.old.told arriving.old.linked arriving.old.sources)
+        (line_of (S.types_of volume.new.session.store) (S.state_of volume.new.session.store) volume.new.folder volume.new.session.volume
+        volume.new.told arriving.new.linked arriving.new.sources) }
 {
     let folder = (last.source.as_str(), last.path.as_slice(), last.number);
     let done = put_name(arriving, volume, folder, name, piece);
@@ -446,6 +472,12 @@ fn step<H: Host, S: FlushStore + Drop>(
 ) -> Result<(), Fault>
     ensures types { S.types_of volume.new.session.store ≡ S.types_of volume.old.session.store }
     ensures folder { volume.new.folder ≡ volume.old.folder }
+    ensures does { 384 ≤ length piece.old → StepsOn (length piece.old) (map entered frames.old.items) (entered last)
+        (map entered frames.new.items) result
+        (line_of (S.types_of volume.old.session.store) (S.state_of volume.old.session.store) volume.old.folder volume.old.session.volume
+        volume.old.told arriving.old.linked arriving.old.sources)
+        (line_of (S.types_of volume.new.session.store) (S.state_of volume.new.session.store) volume.new.folder volume.new.session.volume
+        volume.new.told arriving.new.linked arriving.new.sources) }
 {
     let mut last = last;
     let Some(name) = last.waiting.pop() else {
@@ -464,6 +496,11 @@ pub fn put_folder<H: Host, S: FlushStore + Drop>(
 ) -> Result<(), Fault>
     ensures types { S.types_of volume.new.session.store ≡ S.types_of volume.old.session.store }
     ensures folder { volume.new.folder ≡ volume.old.folder }
+    ensures does { 384 ≤ length piece.old → PutsFolder (length piece.old) (entered frame) result
+        (line_of (S.types_of volume.old.session.store) (S.state_of volume.old.session.store) volume.old.folder volume.old.session.volume
+        volume.old.told arriving.old.linked arriving.old.sources)
+        (line_of (S.types_of volume.new.session.store) (S.state_of volume.new.session.store) volume.new.folder volume.new.session.volume
+        volume.new.told arriving.new.linked arriving.new.sources) }
 {
     let mut frames = Vec::new(alloc);
     frames.push(frame)?;
