@@ -13,11 +13,11 @@ returns-in_err-push-clause-does g c wide =
 
 pub loop-step-init : goal.loop-step-init
 loop-step-init g c = record {
-    types = refl;
-    folder = refl;
-    brings = λ wide. none_brought (length c.args.piece.now) c.args.frame c.push.new.self.items c.new-frames.result.items c.in_ok-push.ensures.items
-        c.new-frames.ensures.items _;
-  }
+  types = refl;
+  folder = refl;
+  brings = λ wide. none_brought (length c.args.piece.now) c.args.frame c.push.new.self.items c.new-frames.result.items c.in_ok-push.ensures.items
+      c.new-frames.ensures.items _;
+}
 
 pub returns-in_err-step-clause-does : goal.returns-in_err-step-clause-does
 returns-in_err-step-clause-does g c wide =
