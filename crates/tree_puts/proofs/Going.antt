@@ -42,24 +42,24 @@ module _ (room : ℕ) (before : List Entered) (rest : Entered) (name : List ℕ)
       Brings room rest.number name done a b →
       frames ≡ before ++ rest ∷ entered frame ∷ [] → BringsNext room before rest name frames (Ok tt) a b
   next_folder done field frame is field_is brings are = (
-      Ok (Some frame),
-      b,
-      subst (λ (o : Option Frame). Brings room rest.number name (Ok o) a b) field_is
-          (subst (λ (r : Result (Option Frame) LineFault). Brings room rest.number name r a b) is brings),
-      none_changed b,
-      are,
-    )
+    Ok (Some frame),
+    b,
+    subst (λ (o : Option Frame). Brings room rest.number name (Ok o) a b) field_is
+        (subst (λ (r : Result (Option Frame) LineFault). Brings room rest.number name r a b) is brings),
+    none_changed b,
+    are,
+  )
 
-  pub next_other : (done : Result (Option Frame) LineFault) (field : Option Frame) → done ≡ Ok field → field ≡ None → Brings room rest.number name done a b → frames ≡ before ++ rest ∷ [] →
-      BringsNext room before rest name frames (Ok tt) a b
+  pub next_other : (done : Result (Option Frame) LineFault) (field : Option Frame) → done ≡ Ok field → field ≡ None →
+      Brings room rest.number name done a b → frames ≡ before ++ rest ∷ [] → BringsNext room before rest name frames (Ok tt) a b
   next_other done field is field_is brings are = (
-      Ok None,
-      b,
-      subst (λ (o : Option Frame). Brings room rest.number name (Ok o) a b) field_is
-          (subst (λ (r : Result (Option Frame) LineFault). Brings room rest.number name r a b) is brings),
-      none_changed b,
-      are,
-    )
+    Ok None,
+    b,
+    subst (λ (o : Option Frame). Brings room rest.number name (Ok o) a b) field_is
+        (subst (λ (r : Result (Option Frame) LineFault). Brings room rest.number name r a b) is brings),
+    none_changed b,
+    are,
+  )
 
   pub next_fault : (between : LineState) (done : Result (Option Frame) LineFault) (fault : LineFault) → done ≡ Err fault →
       Brings room rest.number name done a between → StaysButTold between b → frames ≡ before ++ rest ∷ [] → (result : Result (Unit {0}) LineFault) →

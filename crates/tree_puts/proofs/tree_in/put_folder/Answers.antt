@@ -13,11 +13,11 @@ returns-in_err-push-clause-does g c wide =
 
 pub loop-step-init : goal.loop-step-init
 loop-step-init g c = record {
-    types = refl;
-    folder = refl;
-    brings = λ wide. none_brought (length c.args.piece.now) c.args.frame c.push.new.self.items c.new-frames.result.items c.in_ok-push.ensures.items
-        c.new-frames.ensures.items _;
-  }
+  types = refl;
+  folder = refl;
+  brings = λ wide. none_brought (length c.args.piece.now) c.args.frame c.push.new.self.items c.new-frames.result.items c.in_ok-push.ensures.items
+      c.new-frames.ensures.items _;
+}
 
 pub returns-in_err-step-clause-does : goal.returns-in_err-step-clause-does
 returns-in_err-step-clause-does g c wide =
@@ -45,6 +45,10 @@ returns-clause-does g c wide =
       | else-loop-step-test w ↦
           let all : before._step ≡ 2 ^ 64 - 1 = omega (arith, w.loop-step-test.false, before.auto._step-end) in
           (before._step, map entered before.frames.items, before.invariant.brings wide, inr all)
-      | then-loop-step-test+in_default w ↦
-          (before._step, map entered before.frames.items, before.invariant.brings wide, inl (none_waits entered before.frames.items (omega (arith, before.frames.ok.0, w.in_default.ensures.cases.0))))
+      | then-loop-step-test+in_default w ↦ (
+        before._step,
+        map entered before.frames.items,
+        before.invariant.brings wide,
+        inl (none_waits entered before.frames.items (omega (arith, before.frames.ok.0, w.in_default.ensures.cases.0))),
+      )
     ]
