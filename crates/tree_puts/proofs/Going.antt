@@ -50,8 +50,8 @@ module _ (room : ℕ) (before : List Entered) (rest : Entered) (name : List ℕ)
     are,
   )
 
-  pub next_other : (done : Result (Option Frame) LineFault) (field : Option Frame) → done ≡ Ok field → field ≡ None → Brings room rest.number name done a b → frames ≡ before ++ rest ∷ [] →
-      BringsNext room before rest name frames (Ok tt) a b
+  pub next_other : (done : Result (Option Frame) LineFault) (field : Option Frame) → done ≡ Ok field → field ≡ None →
+      Brings room rest.number name done a b → frames ≡ before ++ rest ∷ [] → BringsNext room before rest name frames (Ok tt) a b
   next_other done field is field_is brings are = (
     Ok None,
     b,

@@ -1,7 +1,6 @@
-use Rattle.std.proofs.Common.{◌≡◌, ◌∙◌, Option, Result, Ok, ap, length, map, refl}
+use Rattle.std.proofs.Common.{length, map, refl}
 use Rattle.tree_puts.specs.Folders.{entered}
 use Rattle.tree_puts.specs.Lines.{line_of}
-use Rattle.tree_puts.specs.declared.tree_in.Frame.{Frame}
 use Rattle.tree_puts.proofs.Going.{next_fault, next_folder, next_other, not_pushed}
 use Rattle.tree_puts.proofs.Stepped.{one_pushed, two_pushed}
 use Rattle.tree_puts.proofs.tree_in.bring_next.Goals as goal
@@ -27,7 +26,8 @@ returns-in_ok-push-in-Ok-Some-clause-does g c wide =
 pub returns-in-Ok-None-clause-does : goal.returns-in-Ok-None-clause-does
 returns-in-Ok-None-clause-does g c wide =
     next_other (length c.args.piece.now) (map entered c.args.frames.now.items) (entered c.args.last) c.args.name.now _ _ _
-    c.put_name-done.result c.in-Ok-None.field-0 c.in-Ok-None.is c.in-Ok-None.field-0-is (c.put_name-done.ensures.does wide) (one_pushed _ _ _ c.in_ok-push.ensures.items)
+    c.put_name-done.result c.in-Ok-None.field-0 c.in-Ok-None.is c.in-Ok-None.field-0-is
+    (c.put_name-done.ensures.does wide) (one_pushed _ _ _ c.in_ok-push.ensures.items)
 
 pub returns-in-Err-clause-does : goal.returns-in-Err-clause-does
 returns-in-Err-clause-does g c wide =

@@ -45,6 +45,10 @@ returns-clause-does g c wide =
       | else-loop-step-test w ↦
           let all : before._step ≡ 2 ^ 64 - 1 = omega (arith, w.loop-step-test.false, before.auto._step-end) in
           (before._step, map entered before.frames.items, before.invariant.brings wide, inr all)
-      | then-loop-step-test+in_default w ↦
-          (before._step, map entered before.frames.items, before.invariant.brings wide, inl (none_waits entered before.frames.items (omega (arith, before.frames.ok.0, w.in_default.ensures.cases.0))))
+      | then-loop-step-test+in_default w ↦ (
+        before._step,
+        map entered before.frames.items,
+        before.invariant.brings wide,
+        inl (none_waits entered before.frames.items (omega (arith, before.frames.ok.0, w.in_default.ensures.cases.0))),
+      )
     ]

@@ -1,4 +1,4 @@
-use Rattle.std.proofs.Common.{◌≡◌, arith, inl, inr, length, map, refl}
+use Rattle.std.proofs.Common.{arith, inl, inr, map, refl}
 use Rattle.std.specs.String.{string_bytes}
 use Rattle.tree_puts.specs.Folders.{entered}
 use Rattle.tree_puts.proofs.Stepped.{leaves_same, next_waits, none_waits}
