@@ -1,7 +1,7 @@
 //! Files and folders of the system that are brought into a volume of trees.
 //!
-//! Of a file and of a symbolic link it is proved which calls bring them in, in which order and with which bytes; of the other functions that they are safe and
-//! end.
+//! Of a file, of a symbolic link, and of a folder with all below it, it is proved which calls bring them in, in which order and with which bytes; of the word
+//! `put` that it is safe and ends.
 //! May touch: memory, files, streams, clock.
 #![tactic(auto)]
 
