@@ -130,8 +130,8 @@ BODIES = {
     ),
     "open_finds_32_blocks": Body(
         OPENING, [],
-        "file.find_image(alloc, blocks)?;",
-        "file.find_image(alloc, blocks.min(32))?;",
+        "FoundImage::read(alloc, &file, blocks)?;",
+        "FoundImage::read(alloc, &file, blocks.min(32))?;",
         ["a_file_has_what_is_written_to_its_lanes"],
     ),
     "last_piece_is_not_read": Body(
@@ -153,9 +153,9 @@ BODIES = {
         ["a_file_has_what_is_written_to_its_lanes"],
     ),
     "no_error_of_the_system_is_told": Body(
-        OPENING, ["xnfs"],
-        "        self.file.first_error()\n",
-        "        let _ = self.file.first_error();\n        None\n",
+        SHARED_FILE, ["xnfs"],
+        "            Ok(number) => Some(io::Error::from_raw_os_error(number)),\n",
+        "            Ok(_) => None,\n",
         ["the_systems_reason_is_told"],
     ),
     "new_disk_not_locked": Body(
@@ -288,7 +288,7 @@ BODIES = {
     ),
     "lines_of_a_shell_not_synced": Body(
         XNFS_LINE + "shell.rt", ["xnfs"],
-        "    if shell.is_lazy || crate::looking::is_looking(word) {\n",
+        "    if shell.is_lazy || is_looking(word) {\n",
         "    if shell.is_lazy || !matches!(word, Word::Sync) {\n",
         ["a_line_of_a_shell_is_on_the_disk_once_it_has_answered"],
     ),

@@ -1,15 +1,22 @@
 -- What an inode's fields are once one of them is written.
-use Rattle.std.proofs.Common.{◌≡◌, ℕ, zero, suc, ◌+◌, ◌*◌, ◌^◌, ◌<◌, ◌≤◌, ◌≢◌, ◌⊎◌, List, ◌∷◌, length, refl, sym, ◌∙◌, ap, inl, inr, arith}
+use Rattle.std.proofs.Common.{◌≡◌, ℕ, zero, suc, ◌+◌, ◌*◌, ◌^◌, ◌<◌, ◌≤◌, ◌≢◌, ◌⊎◌, List, ◌∷◌, ◌++◌, length, take, drop, refl, sym, ◌∙◌, ap, inl, inr, arith}
 use Rattle.std.specs.Prelude.{map, slice_set}
 use Rattle.std.specs.Int.{w16, w32, to_le_bytes}
 use Rattle.std.specs.List.{range_with_len}
 use Rattle.std.proofs.lemmas.Bool.{cases_lt}
+use Rattle.std.proofs.lemmas.Grind.{common_steps}
 use Rattle.std.proofs.lemmas.Nat.{from_le_bytes-to_le_bytes_2, from_le_bytes-to_le_bytes_4}
+use borrow.Rule.Slice.PartMut.{put_mid}
 use Rattle.xn_model.specs.Lists.{put}
 use Rattle.xn_model.specs.Root.{word_at}
 use Rattle.ffs_model.specs.Library.{half_at}
 use Rattle.ffs_model.proofs.ForCallers.{half_apart, word_apart, half_within, word_within}
 use Rattle.ffs_format.specs.Fields.{Fields, direct_in, fields_of}
+
+-- bytes that are written into a part of an inode, which they fill
+pub put_part : {m old ys : List ℕ} (bs : List ℕ) (at k : ℕ) → m ≡ old → length m ≡ 64 → ys ≡ bs ++ drop (length bs) (take k (drop at m)) → k ≡ length bs → at + k ≤ 64 →
+    put_mid at k m ys ≡ put old at bs
+put_part bs at k same whole is long fits = grind (arith, common_steps)
 
 same_fields : {x y : Fields} → x.mode ≡ y.mode → x.links ≡ y.links → x.size ≡ y.size → x.direct ≡ y.direct → x.indirect ≡ y.indirect → x ≡ y
 same_fields mode links size direct indirect = λ i. record { mode = mode i; links = links i; size = size i; direct = direct i; indirect = indirect i }

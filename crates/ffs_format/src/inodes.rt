@@ -3,8 +3,7 @@
 ghost use Rattle.std.specs.Prelude.{◌≡◌, ◌+◌, ◌*◌, ◌-◌, ◌/◌, ◌%◌, ◌<◌, ◌≤◌, bytes_eq, length, replicate, slice_set};
 ghost use Rattle.std.specs.Int.{w16, w32, to_le_bytes};
 ghost use Rattle.xn_model.specs.Lists.{put};
-ghost use Rattle.xn_model.specs.Root.{word_at};
-ghost use Rattle.ffs_model.specs.Library.{half_at, inode_at};
+ghost use Rattle.ffs_model.specs.Library.{inode_at};
 ghost use Rattle.ffs_format.specs.Fields.{direct_in, fields_of};
 
 use byteorder::{ByteOrder, LittleEndian};
@@ -84,42 +83,6 @@ impl Inode {
         Inode { bytes }
     }
 
-    /// The number in its two bytes from a place on.
-    #[tactic(auto, unfolding(ffs_model::specs::Library::half_at))]
-    fn half_at(&self, at: usize) -> u16
-        requires { at + 2 ≤ 64 }
-        ensures { result ≡ half_at self.now at }
-    {
-        LittleEndian::read_u16(&self.bytes[at..at + 2])
-    }
-
-    /// The number in its four bytes from a place on.
-    #[tactic(auto, unfolding(xn_model::specs::Root::word_at))]
-    fn word_at(&self, at: usize) -> u32
-        requires { at + 4 ≤ 64 }
-        ensures { result ≡ word_at self.now at }
-    {
-        LittleEndian::read_u32(&self.bytes[at..at + 4])
-    }
-
-    /// Writes a number into its two bytes from a place on.
-    fn put_half(&mut self, at: usize, number: u16)
-        requires { at + 2 ≤ 64 }
-        ensures bytes { self.new ≡ put self.old at (to_le_bytes w16 number) }
-        ensures whole { length self.old ≡ 64 }
-    {
-        LittleEndian::write_u16(&mut self.bytes[at..at + 2], number);
-    }
-
-    /// Writes a number into its four bytes from a place on.
-    fn put_word(&mut self, at: usize, number: u32)
-        requires { at + 4 ≤ 64 }
-        ensures bytes { self.new ≡ put self.old at (to_le_bytes w32 number) }
-        ensures whole { length self.old ≡ 64 }
-    {
-        LittleEndian::write_u32(&mut self.bytes[at..at + 4], number);
-    }
-
     /// Its bytes.
     pub fn bytes(&self) -> &[u8; 64]
         ensures bytes { result.now ≡ self.now }
@@ -129,39 +92,45 @@ impl Inode {
     }
 
     /// 0 where it is free, 1 for a file and 2 for a directory.
+    #[tactic(auto, unfolding(ffs_model::specs::Library::half_at))]
     pub fn mode(&self) -> u16
         ensures { result ≡ (fields_of self.now).mode }
     {
-        self.half_at(0)
+        LittleEndian::read_u16(&self.bytes[..LINKS])
     }
 
     /// How many entries name it, at most.
+    #[tactic(auto, unfolding(ffs_model::specs::Library::half_at))]
     pub fn links(&self) -> u16
         ensures { result ≡ (fields_of self.now).links }
     {
-        self.half_at(LINKS)
+        LittleEndian::read_u16(&self.bytes[LINKS..SIZE])
     }
 
     /// How many bytes its file has.
+    #[tactic(auto, unfolding(xn_model::specs::Root::word_at))]
     pub fn size(&self) -> u32
         ensures { result ≡ (fields_of self.now).size }
     {
-        self.word_at(SIZE)
+        LittleEndian::read_u32(&self.bytes[SIZE..DIRECT])
     }
 
     /// One of the 12 blocks of data to which it points itself, or 0.
+    #[tactic(auto, unfolding(xn_model::specs::Root::word_at))]
     pub fn direct(&self, i: usize) -> u32
         requires { i < 12 }
         ensures { result ≡ direct_in self.now i }
     {
-        self.word_at(DIRECT + 4 * i)
+        let at = DIRECT + 4 * i;
+        LittleEndian::read_u32(&self.bytes[at..at + 4])
     }
 
     /// The block of pointers to the rest of its blocks, or 0.
+    #[tactic(auto, unfolding(xn_model::specs::Root::word_at))]
     pub fn indirect(&self) -> u32
         ensures { result ≡ (fields_of self.now).indirect }
     {
-        self.word_at(INDIRECT)
+        LittleEndian::read_u32(&self.bytes[INDIRECT..INDIRECT + 4])
     }
 
     /// Sets the mode. Nothing else changes.
@@ -170,7 +139,7 @@ impl Inode {
         ensures bytes { self.new ≡ put self.old 0 (to_le_bytes w16 mode) }
         ensures fields { fields_of self.new ≡ record (fields_of self.old) { mode = mode } }
     {
-        self.put_half(0, mode);
+        LittleEndian::write_u16(&mut self.bytes[..LINKS], mode);
     }
 
     /// Sets the count of links. Nothing else changes.
@@ -179,7 +148,7 @@ impl Inode {
         ensures bytes { self.new ≡ put self.old 2 (to_le_bytes w16 links) }
         ensures fields { fields_of self.new ≡ record (fields_of self.old) { links = links } }
     {
-        self.put_half(LINKS, links);
+        LittleEndian::write_u16(&mut self.bytes[LINKS..SIZE], links);
     }
 
     /// Sets the size. Nothing else changes.
@@ -188,7 +157,7 @@ impl Inode {
         ensures bytes { self.new ≡ put self.old 4 (to_le_bytes w32 size) }
         ensures fields { fields_of self.new ≡ record (fields_of self.old) { size = size } }
     {
-        self.put_word(SIZE, size);
+        LittleEndian::write_u32(&mut self.bytes[SIZE..DIRECT], size);
     }
 
     /// Sets one of the 12 blocks of data to which it points itself. Nothing else changes.
@@ -198,7 +167,8 @@ impl Inode {
         ensures bytes { self.new ≡ put self.old (8 + 4 * i) (to_le_bytes w32 block) }
         ensures fields { fields_of self.new ≡ record (fields_of self.old) { direct = slice_set (fields_of self.old).direct i block } }
     {
-        self.put_word(DIRECT + 4 * i, block);
+        let at = DIRECT + 4 * i;
+        LittleEndian::write_u32(&mut self.bytes[at..at + 4], block);
     }
 
     /// Sets the block of pointers to the rest of its blocks. Nothing else changes.
@@ -207,6 +177,6 @@ impl Inode {
         ensures bytes { self.new ≡ put self.old 56 (to_le_bytes w32 block) }
         ensures fields { fields_of self.new ≡ record (fields_of self.old) { indirect = block } }
     {
-        self.put_word(INDIRECT, block);
+        LittleEndian::write_u32(&mut self.bytes[INDIRECT..INDIRECT + 4], block);
     }
 }

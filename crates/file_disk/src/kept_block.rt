@@ -1,16 +1,46 @@
 // What a lane keeps of its block, and what may change it.
-ghost use Rattle.std.specs.Prelude.{◌≡◌, ◌≤◌, false, IfOk};
+ghost use Rattle.std.specs.Prelude.{◌≡◌, ◌≤◌, false, IfOk, ℕ, List, [], ◌∷◌};
+ghost use Rattle.std.specs.Borrow.{ftrue};
 ghost use Rattle.file_disk.specs.File.{KeptBytes, OpenWriteBytes, fresh_kept, with_found, with_given, with_settled};
 
 use crate::found_block::FoundBlock;
-use crate::open_writes::OpenWrites;
 use crate::shared_file::GoodSync;
 use std::alloc::{AllocError, Global};
-use std::marker::Model;
+use std::marker::{Model, PhantomData};
 use store_types::BLOCK_LEN;
 
+/// All bytes that a crash may leave in a block. It takes no memory, and its methods do nothing when they run.
+#[derive(Drop)]
+struct CrashList {
+    marker: PhantomData<u8>,
+    pub ghost may_leave: { List (List ℕ) },
+}
+
+impl Model for CrashList {
+    ghost also_owns = { λ _. ftrue };
+}
+
+// It owns nothing.
+unsafe impl Send for CrashList {}
+
+impl CrashList {
+    fn new() -> CrashList
+        ensures { result.may_leave ≡ [] }
+    {
+        CrashList {
+            marker: PhantomData,
+        }
+    }
+
+    /// These bytes were given to a write.
+    fn give(&mut self, _bytes: &[u8])
+        ensures { self.new.may_leave ≡ _bytes.now ∷ self.old.may_leave }
+    {}
+}
+
 /// The bytes that a block has, and its writes that may not be settled. Each write puts the block in doubt, and nothing ends that but
-/// a `FoundBlock`.
+/// a `FoundBlock`. No other code changes the list of what a crash may leave, and only a good sync that began after the newest write
+/// shortens it.
 ///
 /// The bytes stand behind a pointer, since a lane goes from hand to hand with each write.
 #[derive(Drop)]
@@ -19,7 +49,9 @@ pub(crate) struct KeptBlock {
     bytes: Box<[u8; BLOCK_LEN]>,
     /// Whether the newest write failed, and the file did not bring `bytes` since.
     in_doubt: bool,
-    open_writes: OpenWrites,
+    crash_list: CrashList,
+    /// The number of the first sync that settles the newest write; 0 where there was none since the file was opened.
+    settled_by: u64,
 }
 
 impl Model for KeptBlock {
@@ -27,7 +59,12 @@ impl Model for KeptBlock {
 
     ghost Value = { KeptBytes };
 
-    ghost view = { λ a. record { number = a.number; bytes = a.bytes.value; in_doubt = a.in_doubt; writes = a.open_writes } };
+    ghost view = { λ a. record {
+      number = a.number;
+      bytes = a.bytes.value;
+      in_doubt = a.in_doubt;
+      writes = record { may_leave = a.crash_list.may_leave; settled_by = a.settled_by };
+    } };
 }
 
 impl KeptBlock {
@@ -35,17 +72,19 @@ impl KeptBlock {
     pub(crate) fn new(
         alloc: Global,
         found: &FoundBlock,
-        opened: &GoodSync,
+        _opened: &GoodSync,
     ) -> Result<KeptBlock, AllocError>
         ensures { IfOk result (λ block. block ≡ fresh_kept found.now.number found.now.bytes) }
     {
-        let open_writes = OpenWrites::none(found.bytes(), opened);
+        let mut crash_list = CrashList::new();
+        crash_list.give(found.bytes());
         let bytes = Box::new(alloc, *found.bytes())?;
         Ok(KeptBlock {
             number: found.number(),
             bytes,
             in_doubt: false,
-            open_writes,
+            crash_list,
+            settled_by: 0,
         })
     }
 
@@ -71,7 +110,7 @@ impl KeptBlock {
     pub(crate) fn settled_by(&self) -> u64
         ensures { result ≡ self.now.writes.settled_by }
     {
-        self.open_writes.settled_by()
+        self.settled_by
     }
 
     /// These bytes were given to a write, which the sync of this number settles.
@@ -79,7 +118,8 @@ impl KeptBlock {
         ensures { self.new ≡ with_given self.old bytes.now settled_by }
     {
         self.in_doubt = true;
-        self.open_writes.give(bytes, settled_by);
+        self.crash_list.give(bytes);
+        self.settled_by = settled_by;
     }
 
     /// The file has these bytes in the place of the block.
@@ -99,6 +139,8 @@ impl KeptBlock {
         ensures { self.new ≡ with_settled self.old }
     {
         let _is_in_doubt = self.in_doubt;
-        self.open_writes.settle(&*self.bytes, good);
+        let _number = good.number();
+        self.crash_list = CrashList::new();
+        self.crash_list.give(&*self.bytes);
     }
 }

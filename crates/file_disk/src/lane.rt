@@ -48,13 +48,6 @@ impl FileLane {
             faults: 0,
         }
     }
-
-    /// The bytes of the block.
-    pub fn bytes(&self) -> &[u8; BLOCK_LEN]
-        ensures { result.now ≡ self.now.bytes }
-    {
-        self.block.bytes()
-    }
 }
 
 impl Lane for FileLane {

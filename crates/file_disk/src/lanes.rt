@@ -8,14 +8,11 @@ use crate::fault::FileFault;
 use crate::found_block::{FoundBlock, FoundImage};
 use crate::kept_block::KeptBlock;
 use crate::lane::FileLane;
-use crate::shared_file::{GoodSync, SharedFile};
+use crate::shared_file::{GoodSync, Shared, SharedFile};
 use disk::Lanes;
 use std::alloc::Global;
 use std::fs::File;
 use std::sync::Arc;
-
-/// A file that is settled, to be shared by its lanes.
-pub(crate) type Shared = Arc<SharedFile, Global>;
 
 /// Makes a lane for each block of a settled file, all at home, which share the file, of the image that it brought or took. The lanes take the memory
 /// of the image over, from the last block down.
@@ -40,11 +37,10 @@ pub(crate) fn lanes_of(
     Ok(lanes)
 }
 
-/// Settles a file, to be shared by its lanes.
-pub(crate) fn share(alloc: Global, file: File) -> Result<(Shared, GoodSync), FileFault> {
-    let (file, opened) = SharedFile::new(file)?;
-    match Arc::new(alloc, file) {
-        Ok(file) => Ok((file, opened)),
+/// A file, to be shared by its lanes.
+pub(crate) fn share(alloc: Global, file: File) -> Result<Shared, FileFault> {
+    match Arc::new(alloc, SharedFile::new(file)) {
+        Ok(file) => Ok(file),
         Err(_) => Err(FileFault::NoMemory),
     }
 }

@@ -11,12 +11,13 @@
 //! - in `shared_file`, that each read of a block asks the file; that what is found is used before the block is written again; that a
 //!   `GoodSync` is made only where the sync of that number was good, or the one by which the file was opened; and that the number which
 //!   a write is given is that of a sync which begins after it;
-//! - in `open_writes`, that the list of what a crash may leave, which no memory holds, is changed by these alone;
-//! - in `lanes`, that the sync by which a file is opened comes before its blocks are read, and that all lanes have that file;
-//! - in `opening`, that a file is made only where nothing has its name (`create_new`) and its lock is taken before it is written; that a file
-//!   that is there is locked, and its name looked at again behind that, before it is read (`system_files`); that a disk has as many
-//!   blocks as its file is long; that of a file which is made the folder is synced, and the image written before the sync by which
-//!   it is opened; and that what is removed where that fails is the file that was made.
+//! - in `kept_block`, that the list of what a crash may leave, which no memory holds, is changed by its functions alone;
+//! - in `lanes`, that all lanes have one file;
+//! - in `opening`, that the sync by which a file is opened is of that file, and comes before its blocks are read; that a file is made only
+//!   where nothing has its name (`create_new`) and its lock is taken before it is written; that a file that is there is locked, and its name
+//!   looked at again behind that, before it is read (`system_files`); that a disk has as many blocks as its file is long; that of a file
+//!   which is made the folder is synced, and the image written before the sync by which it is opened; and that what is removed where
+//!   that fails is the file that was made.
 //!
 //! What is trusted of the system and of the drive stands in `docs/HEADLINE.md`.
 //! May touch: memory, threads, files.
@@ -27,13 +28,14 @@ mod found_block;
 mod kept_block;
 mod lane;
 mod lanes;
-mod open_writes;
 mod opening;
 mod shared_file;
 
 pub use fault::FileFault;
 pub use lane::FileLane;
-pub use opening::{FileDisk, FileImage, SystemFault};
+pub use opening::{FileDisk, FileImage};
+pub use shared_file::SystemFault;
+pub use system_files::Access;
 
 #[cfg(test)]
 mod tests;

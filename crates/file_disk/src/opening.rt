@@ -7,8 +7,8 @@ ghost use Rattle.file_disk.specs.Opened.{AreOpened, IsDiskImage};
 use crate::fault::FileFault;
 use crate::found_block::{FoundImage, write_blocks};
 use crate::lane::FileLane;
-use crate::lanes::{Shared, lanes_of, share};
-use crate::shared_file::GoodSync;
+use crate::lanes::{lanes_of, share};
+use crate::shared_file::{GoodSync, Shared, SystemFault};
 use disk::Lanes;
 use std::alloc::{AllocError, Global};
 use std::fs::{File, Files, Metadata, OpenOptions, TryLockError};
@@ -25,19 +25,6 @@ use system_files::{Access, is_same, open_locked};
 pub struct FileDisk {
     lanes: Lanes<FileLane>,
     file: Shared,
-}
-
-/// What the system answers to the calls of a disk's lanes. It keeps the file open, as a lane does.
-#[derive(Drop)]
-pub struct SystemFault {
-    file: Shared,
-}
-
-impl SystemFault {
-    /// The first error that the system answered to a read, a write or a sync of the file, if there was one.
-    pub fn first(&self) -> Option<io::Error> {
-        self.file.first_error()
-    }
 }
 
 impl Model for FileDisk {
@@ -70,24 +57,25 @@ impl Model for FileImage {
 
 impl FileImage {
     /// Opens and locks a file, settles what the system still holds of it, and reads each block once, a megabyte at a time. `NotThere` comes
-    /// where nothing has the name, `InUse` at once where another handle has the lock, `NotAFile` and `BadLength` where it can be no disk. The
-    /// file is the one that had the name once its lock was taken.
+    /// where nothing has the name, `InUse` at once where another handle has a lock that doesn't go with this one, `NotAFile` and `BadLength`
+    /// where it can be no disk. The file is the one that had the name once its lock was taken.
+    ///
+    /// One that is opened to be read alone need not be one that may be written, and the system refuses each write to it.
     pub fn open<R: Files<File = File>>(
         rt: &R,
         alloc: Global,
         path: &str,
+        access: Access,
     ) -> Result<FileImage, FileFault> {
-        open_as(rt, alloc, path, Access::Written)
-    }
-
-    /// Opens a file as `open`, but to look at it alone: it need not be one that may be written, others that look may have it open
-    /// too, and `InUse` comes where somebody has it open to change it. The system refuses each write to such a file.
-    pub fn open_to_read<R: Files<File = File>>(
-        rt: &R,
-        alloc: Global,
-        path: &str,
-    ) -> Result<FileImage, FileFault> {
-        open_as(rt, alloc, path, Access::Shared)
+        let file = open_locked(rt, path, access)?;
+        let blocks = blocks_of(&file)?;
+        let opened = GoodSync::first(&file)?;
+        let image = FoundImage::read(alloc, &file, blocks)?;
+        Ok(FileImage {
+            file: share(alloc, file)?,
+            opened,
+            image,
+        })
     }
 
     /// Its bytes, block after block.
@@ -157,31 +145,19 @@ impl FileDisk {
         filled
     }
 
-    /// Opens a file as `FileImage::open` does, with a lane for each block.
+    /// Opens a file as `FileImage::open` does, with a lane for each block. Where it is opened to be read alone a write of it is a fault, and its
+    /// sync, where no write was, is none.
     pub fn open<R: Files<File = File>>(
         rt: &R,
         alloc: Global,
         path: &str,
+        access: Access,
     ) -> Result<FileDisk, FileFault>
         ensures opened { IfOk result (λ disk. AreOpened (length disk) disk) }
         ensures least { IfOk result (λ disk. 32 ≤ length disk) }
         ensures most { IfOk result (λ disk. length disk ≤ most_blocks) }
     {
-        FileImage::open(rt, alloc, path)?.into_disk(alloc)
-    }
-
-    /// Opens a file as `FileImage::open_to_read` does, with a lane for each block: a write of it is a fault, and its sync, where no write
-    /// was, is none.
-    pub fn open_to_read<R: Files<File = File>>(
-        rt: &R,
-        alloc: Global,
-        path: &str,
-    ) -> Result<FileDisk, FileFault>
-        ensures opened { IfOk result (λ disk. AreOpened (length disk) disk) }
-        ensures least { IfOk result (λ disk. 32 ≤ length disk) }
-        ensures most { IfOk result (λ disk. length disk ≤ most_blocks) }
-    {
-        FileImage::open_to_read(rt, alloc, path)?.into_disk(alloc)
+        FileImage::open(rt, alloc, path, access)?.into_disk(alloc)
     }
 
     /// Makes a file of so many blocks, the first of these bytes and all others of zeros, as `create_with` does, and without their lanes: of the
@@ -205,13 +181,6 @@ impl FileDisk {
             remove_made(rt, path, &made);
         }
         filled
-    }
-
-    /// How many blocks it has.
-    pub fn blocks(&self) -> usize
-        ensures { result ≡ length self.now }
-    {
-        self.lanes.blocks()
     }
 
     /// What tells the system's reason where a lane fails.
@@ -243,24 +212,6 @@ fn make<R: Files<File = File>>(rt: &R, path: &str) -> Result<File, FileFault> {
     }
 }
 
-/// Opens a file that is there as a disk.
-fn open_as<R: Files<File = File>>(
-    rt: &R,
-    alloc: Global,
-    path: &str,
-    access: Access,
-) -> Result<FileImage, FileFault> {
-    let file = open_locked(rt, path, access)?;
-    let blocks = blocks_of(&file)?;
-    let (file, opened) = share(alloc, file)?;
-    let image = file.find_image(alloc, blocks)?;
-    Ok(FileImage {
-        file,
-        opened,
-        image,
-    })
-}
-
 /// Locks a file that was just made, writes these bytes and settles them and its name.
 fn fill<R: Files<File = File>>(
     rt: &R,
@@ -278,9 +229,9 @@ fn fill<R: Files<File = File>>(
     lock(&file)?;
     settle_name(rt, path)?;
     let image = FoundImage::write(alloc, &file, image)?;
-    let (file, opened) = share(alloc, file)?;
+    let opened = GoodSync::first(&file)?;
     FileImage {
-        file,
+        file: share(alloc, file)?,
         opened,
         image,
     }

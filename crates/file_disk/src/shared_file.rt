@@ -6,13 +6,12 @@
 ghost use Rattle.std.specs.Prelude.{◌≡◌, ◌≤◌, ◌*◌, ◌⊎◌, length, false, IsTrue, IfSome, IfOk, OnOk, OnErr};
 ghost use Rattle.file_disk.specs.File.{with_found, with_given};
 
-use crate::fault::FileFault;
-use crate::found_block::{FoundBlock, FoundImage};
+use crate::found_block::FoundBlock;
 use crate::kept_block::KeptBlock;
 use std::alloc::Global;
 use std::fs::File;
-use std::sync::Mutex;
 use std::sync::atomic::{AtomicBool, AtomicU64, Ordering};
+use std::sync::{Arc, Mutex};
 use std::{io, thread};
 use store_types::BLOCK_LEN;
 
@@ -48,6 +47,25 @@ impl Drop for SharedFile {
     }
 }
 
+/// A file that is settled, as its lanes share it.
+pub(crate) type Shared = Arc<SharedFile, Global>;
+
+/// What the system answers to the calls of a disk's lanes. It keeps the file open, as a lane does.
+#[derive(Drop)]
+pub struct SystemFault {
+    pub(crate) file: Shared,
+}
+
+impl SystemFault {
+    /// The first error that the system answered to a read, a write or a sync of the file, if there was one.
+    pub fn first(&self) -> Option<io::Error> {
+        match i32::try_from(self.file.error.load(Ordering::SeqCst)) {
+            Ok(0) | Err(_) => None,
+            Ok(number) => Some(io::Error::from_raw_os_error(number)),
+        }
+    }
+}
+
 /// A sync that was good, by its number. What was written before it began is settled.
 #[derive(Drop)]
 pub(crate) struct GoodSync {
@@ -55,6 +73,12 @@ pub(crate) struct GoodSync {
 }
 
 impl GoodSync {
+    /// Settles what the system holds of a file that is opened.
+    pub(crate) fn first(file: &File) -> io::Result<GoodSync> {
+        file.sync_all()?;
+        Ok(GoodSync { number: 0 })
+    }
+
     pub(crate) fn number(&self) -> u64
         ensures { result ≡ self.now.number }
     {
@@ -63,14 +87,8 @@ impl GoodSync {
 }
 
 impl SharedFile {
-    /// Settles what the system holds of a file.
-    pub(crate) fn new(file: File) -> io::Result<(SharedFile, GoodSync)> {
-        file.sync_all()?;
-        Ok((SharedFile::never_synced(file), GoodSync { number: 0 }))
-    }
-
-    /// No sync of this file has begun.
-    pub(crate) fn never_synced(file: File) -> SharedFile {
+    /// No sync of this file has begun but the one by which it was opened.
+    pub(crate) fn new(file: File) -> SharedFile {
         SharedFile {
             file,
             begun: AtomicU64::new(0),
@@ -90,13 +108,6 @@ impl SharedFile {
             self.note(error);
         }
         found
-    }
-
-    /// Reads all blocks.
-    pub(crate) fn find_image(&self, alloc: Global, blocks: u32) -> Result<FoundImage, FileFault>
-        ensures { IfOk result (λ found. length found.bytes.items ≡ 512 * blocks) }
-    {
-        FoundImage::read(alloc, &self.file, blocks)
     }
 
     /// Reads a block. Answers whether the file brings the bytes that the block has: then `into` has them, and the block is in no doubt.
@@ -155,14 +166,6 @@ impl SharedFile {
         }
     }
 
-    /// The first error that the system answered to a read, a write or a sync.
-    pub(crate) fn first_error(&self) -> Option<io::Error> {
-        match i32::try_from(self.error.load(Ordering::SeqCst)) {
-            Ok(0) | Err(_) => None,
-            Ok(number) => Some(io::Error::from_raw_os_error(number)),
-        }
-    }
-
     /// The number of the first sync that has not begun.
     fn next_sync(&self) -> u64 {
         self.begun.load(Ordering::SeqCst).saturating_add(1)
@@ -177,7 +180,7 @@ impl SharedFile {
             if let Some(good) = self.good_sync(wanted) {
                 return Some(good);
             }
-            if self.has_failed() {
+            if self.failed.load(Ordering::SeqCst) {
                 return None;
             }
             if let Some(_turn) = self.turn.try_lock() {
@@ -195,7 +198,7 @@ impl SharedFile {
         if let Some(good) = self.good_sync(wanted) {
             return Some(good);
         }
-        if self.has_failed() {
+        if self.failed.load(Ordering::SeqCst) {
             return None;
         }
         let good = self.sync_in_turn()?;
@@ -214,10 +217,6 @@ impl SharedFile {
             return None;
         }
         Some(GoodSync { number })
-    }
-
-    fn has_failed(&self) -> bool {
-        self.failed.load(Ordering::SeqCst)
     }
 
     /// Makes a sync. It has its number before it begins, and is told good or failed before the turn is given up. No sync has

@@ -3,14 +3,14 @@ ghost use Rattle.std.specs.Prelude.{◌≡◌, ◌≤◌, ◌<◌, length, IfOk}
 ghost use Rattle.xn_model.specs.Images.{most_blocks};
 ghost use Rattle.file_disk.specs.Opened.{AreOpened};
 
+use crate::found_block::FoundImage;
 use crate::lane::FileLane;
-use crate::lanes::lane_of;
-use crate::shared_file::SharedFile;
-use crate::{FileDisk, FileFault, FileImage};
+use crate::lanes::{lane_of, share};
+use crate::shared_file::GoodSync;
+use crate::{Access, FileDisk, FileFault, FileImage};
 use disk::{Lane, Lanes};
 use std::fs::{File, OpenOptions};
 use std::os::unix::fs::FileExt;
-use std::sync::Arc;
 use std::test::Fail;
 use std::thread::Threads;
 use std::{fs, thread};
@@ -30,14 +30,14 @@ fn make(rt: &HostRuntime, path: &str, blocks: u32) -> Result<Lanes<FileLane>, Fi
 fn open(rt: &HostRuntime, path: &str) -> Result<Lanes<FileLane>, FileFault>
     ensures { IfOk result (λ lanes. 32 ≤ length lanes) }
 {
-    Ok(FileDisk::open(rt, rt.alloc(), path)?.into_lanes())
+    Ok(FileDisk::open(rt, rt.alloc(), path, Access::Written)?.into_lanes())
 }
 
 /// Opens a disk to look at it.
 fn open_to_read(rt: &HostRuntime, path: &str) -> Result<Lanes<FileLane>, FileFault>
     ensures { IfOk result (λ lanes. 32 ≤ length lanes) }
 {
-    Ok(FileDisk::open_to_read(rt, rt.alloc(), path)?.into_lanes())
+    Ok(FileDisk::open(rt, rt.alloc(), path, Access::Shared)?.into_lanes())
 }
 
 /// Opens a file to write it beside its disk.
@@ -138,7 +138,7 @@ fn many_blocks_are_read_in_their_places(rt: HostRuntime) -> Result<(), Fail> {
     assert!(rt; matches!(write_long(&rt, "fresh.disk"), Err(FileFault::AlreadyThere)));
     assert_eq!(rt; fs::metadata(&rt, "fresh.disk")?.len(), 512 * 4_099);
     change_long(&rt, "fresh.disk")?;
-    let image = FileImage::open(&rt, rt.alloc(), "fresh.disk")?;
+    let image = FileImage::open(&rt, rt.alloc(), "fresh.disk", Access::Written)?;
     assert!(rt; has(&image, 1_023, 5));
     assert!(rt; has(&image, 1_024, 0));
     assert!(rt; has(&image, 512 * 2_048, b'x'));
@@ -204,9 +204,10 @@ fn refuses_what_is_no_disk(rt: HostRuntime) -> Result<(), Fail> {
 
 /// A lane through a handle that may not write.
 fn unwritten_lane(rt: &HostRuntime, path: &str) -> Result<FileLane, Fail> {
-    let (file, opened) = SharedFile::new(File::open(rt, path)?)?;
-    let file = Arc::new(rt.alloc(), file).ok().ok_or("memory")?;
-    let image = file.find_image(rt.alloc(), 32)?;
+    let file = File::open(rt, path)?;
+    let opened = GoodSync::first(&file)?;
+    let image = FoundImage::read(rt.alloc(), &file, 32)?;
+    let file = share(rt.alloc(), file)?;
     Ok(lane_of(rt.alloc(), &file, &opened, &image.block(3))?)
 }
 
@@ -236,17 +237,14 @@ fn a_write_that_fails_is_settled(rt: HostRuntime) -> Result<(), Fail> {
 /// Lanes over a device that takes each write and forgets it, and that can't be synced.
 fn forgotten_lanes(rt: &HostRuntime) -> Result<(FileLane, FileLane, FileLane), Fail> {
     let _ = fs::remove_file(rt, "syncs.disk");
-    let (regular, opened) = SharedFile::new(File::create_new(rt, "syncs.disk")?)?;
-    drop(regular);
+    let opened = GoodSync::first(&File::create_new(rt, "syncs.disk")?)?;
     remove(rt, "syncs.disk")?;
     let device = OpenOptions::new()
         .read(true)
         .write(true)
         .open(rt, "/dev/zero")?;
-    let file = Arc::new(rt.alloc(), SharedFile::never_synced(device))
-        .ok()
-        .ok_or("memory")?;
-    let image = file.find_image(rt.alloc(), 4)?;
+    let image = FoundImage::read(rt.alloc(), &device, 4)?;
+    let file = share(rt.alloc(), device)?;
     Ok((
         lane_of(rt.alloc(), &file, &opened, &image.block(1))?,
         lane_of(rt.alloc(), &file, &opened, &image.block(2))?,

@@ -1,6 +1,6 @@
 // What the system tells of a file, and what is set of one.
 
-ghost use Rattle.std.specs.Prelude.{◌<◌};
+ghost use Rattle.std.specs.Prelude.{◌≡◌, ◌<◌, ◌↔◌, IsTrue};
 
 use std::fs::{File, Metadata, Permissions};
 use std::io;
@@ -51,7 +51,9 @@ pub struct Attributes {
 
 impl Attributes {
     /// Whether these are of one file: they have the same device and inode.
-    pub fn is_same(&self, other: &Attributes) -> bool {
+    pub fn is_same(&self, other: &Attributes) -> bool
+        ensures { IsTrue result ↔ ((self.now.device ≡ other.now.device) × (self.now.inode ≡ other.now.inode)) }
+    {
         self.device == other.device && self.inode == other.inode
     }
 

@@ -3,7 +3,7 @@ ghost use Rattle.xn_model.specs.Calls as model;
 ghost use Rattle.script.specs.Edits.{SpellsPatch, SpellsAdd, SpellsDrop};
 
 use crate::hex::parse_bytes;
-use crate::number::{parse_small, parse_u32};
+use crate::number::parse_u32;
 use edit_list::Patch;
 use std::alloc::{AllocError, Global};
 
@@ -15,13 +15,15 @@ pub fn parse_patch(alloc: Global, word: &str) -> Result<Option<Patch>, AllocErro
     let Some((offset, digits)) = word.split_once('=') else {
         return Ok(None);
     };
-    let Some(offset) = parse_small(offset, u32::from(u16::MAX)) else {
+    let Some(offset) = parse_u32(offset) else {
+        return Ok(None);
+    };
+    let Ok(offset) = u16::try_from(offset) else {
         return Ok(None);
     };
     let Some(bytes) = parse_bytes(alloc, digits)? else {
         return Ok(None);
     };
-    let offset = offset as u16;
     Ok(Some(Patch { offset, bytes }))
 }
 

@@ -35,10 +35,10 @@ fn digit_value(digit: u8) -> Option<u8>
     }
 }
 
-/// The same as `parse_number`, of numbers of 32 bits, where no sum or product has to be tested for its size.
-pub fn parse_small(text: &str, greatest: u32) -> Option<u32>
-    ensures spelled { IfSome result (λ n. (text.now ≡ decimal n) × (n ≤ greatest)) }
-    ensures readable { (n : ℕ) → n ≤ greatest → text.now ≡ decimal n → result ≡ Some n }
+/// The same as `parse_number`, of numbers of at most 32 bits, where no sum or product has to be tested for its size.
+pub fn parse_u32(text: &str) -> Option<u32>
+    ensures spelled { IfSome result (λ n. text.now ≡ decimal n) }
+    ensures readable { (n : ℕ) → n ≤ 4294967295 → text.now ≡ decimal n → result ≡ Some n }
 {
     if text.is_empty() || !is_plain(text) {
         return None;
@@ -46,19 +46,11 @@ pub fn parse_small(text: &str, greatest: u32) -> Option<u32>
     let mut number = 0;
     for digit in text.as_bytes() {
         number = 10 * number + u64::from(digit_value(*digit)?);
-        if number > u64::from(greatest) {
+        if number > u64::from(u32::MAX) {
             return None;
         }
     }
     Some(number as u32)
-}
-
-/// A number of at most 32 bits.
-pub fn parse_u32(text: &str) -> Option<u32>
-    ensures spelled { IfSome result (λ n. text.now ≡ decimal n) }
-    ensures readable { (n : ℕ) → n ≤ 4294967295 → text.now ≡ decimal n → result ≡ Some n }
-{
-    parse_small(text, u32::MAX)
 }
 
 /// The numbers of at most 32 bits that the words spell, one a word.

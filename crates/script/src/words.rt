@@ -9,7 +9,6 @@ ghost use Rattle.script.specs.Told.{SpellsEvent};
 ghost use Rattle.script.specs.Scripts.{words_in, line_words};
 
 use crate::hex::parse_start;
-use crate::number::parse_small;
 use crate::told::LineEvent;
 use crate::{parse_edit, parse_numbers, parse_u32};
 use edit_list::Edit;
@@ -22,8 +21,8 @@ fn parse_fs(word: &str) -> Option<Fs>
     ensures spelled { IfSome result (λ fs. word.now ≡ decimal fs.number) }
     ensures readable { (n : ℕ) → n < 32 → word.now ≡ decimal n → IsSome result }
 {
-    let number = parse_small(word, 31)?;
-    Fs::new(number as u8)
+    let number = u8::try_from(parse_u32(word)?).ok()?;
+    Fs::new(number)
 }
 
 /// The event of the words `init`, these two and the words behind them.

@@ -19,7 +19,7 @@ use std::collections::BTreeMap;
 use tree_lines::{Fault, Node, Opened, Place, View, at_bytes};
 use treefs_edits::fronts::front;
 use treefs_format::Kind;
-use treefs_session::{Begin, Commit, Put, Target};
+use treefs_session::{Begin, Change, Commit, Put, Target};
 
 /// So many bytes are copied at once.
 const PIECE: usize = 262_144;
@@ -387,9 +387,5 @@ pub fn keep_time<S: FlushStore + Drop>(
         (S.state_of opened.old.session.store) (S.state_of opened.new.session.store) opened.old.session.volume opened.new.session.volume) result }
 {
     let mtime = copied.node.modified;
-    opened.make(
-        alloc,
-        copied.to,
-        &treefs_session::SetMtime { number, mtime },
-    )
+    opened.make(alloc, copied.to, &Change::SetMtime { number, mtime })
 }

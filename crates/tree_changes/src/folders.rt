@@ -9,7 +9,7 @@ use crate::attributes::attributes_with;
 use flush_store::FlushStore;
 use std::alloc::Global;
 use tree_lines::{Fault, Opened, Reason, View, at, place_of};
-use treefs_session::{Mkdir, Rmdir};
+use treefs_session::{Change, Mkdir};
 
 /// The permissions of a new folder.
 const PERMISSIONS: u16 = 0o755;
@@ -143,7 +143,7 @@ fn remove_folder<S: FlushStore + Drop>(
         (S.state_of opened.old.session.store) (S.state_of opened.new.session.store) opened.old.session.volume opened.new.session.volume result }
 {
     let place = place_of(&opened.session, alloc, opened.folder, path)?;
-    let rmdir = Rmdir {
+    let rmdir = Change::Rmdir {
         directory: place.folder,
         name: place.name,
     };

@@ -15,7 +15,7 @@ use crate::copies::Copied;
 use flush_store::FlushStore;
 use std::alloc::Global;
 use tree_lines::{Fault, Opened, Place, Reason, View, at_bytes, there};
-use treefs_session::{Link, Rename, Unlink};
+use treefs_session::Change;
 
 /// So many names are tried for one beside a place. A stop may leave it.
 const MOST_NAMES: u32 = 10_000;
@@ -66,7 +66,7 @@ fn move_to_place<S: FlushStore + Drop>(
         copied.now.place.folder copied.now.place.name.now
         (S.state_of opened.old.session.store) (S.state_of opened.new.session.store) opened.old.session.volume opened.new.session.volume) result }
 {
-    let rename = Rename {
+    let rename = Change::Rename {
         directory: copied.place.folder,
         name: name.as_bytes(),
         new_directory: copied.place.folder,
@@ -88,7 +88,7 @@ fn take_back<S: FlushStore + Drop>(
     ensures does { (taken : Result (Unit {0}) Why) × UnlinkIn (S.types_of opened.old.session.store) opened.old.folder copied.now.place.folder name.now
         (S.state_of opened.old.session.store) (S.state_of opened.new.session.store) opened.old.session.volume opened.new.session.volume taken }
 {
-    let unlink = Unlink {
+    let unlink = Change::Unlink {
         directory: copied.place.folder,
         name: name.as_bytes(),
     };
@@ -119,7 +119,7 @@ pub fn put_name<S: FlushStore + Drop>(
     };
     if !is_there {
         let name = copied.place.name;
-        let link = Link {
+        let link = Change::Link {
             number,
             directory,
             name,
@@ -127,7 +127,7 @@ pub fn put_name<S: FlushStore + Drop>(
         return opened.make_name(alloc, copied.to, &link);
     }
     let name = name_beside(opened, alloc, copied)?;
-    let link = Link {
+    let link = Change::Link {
         number,
         directory,
         name: name.as_bytes(),

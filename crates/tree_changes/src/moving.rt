@@ -14,7 +14,7 @@ use tree_lines::{
     Fault, Goal, Node, Opened, Place, Reason, at, at_bytes, below, find_to, own_name, place_of,
     there,
 };
-use treefs_session::Rename;
+use treefs_session::Change;
 
 /// The path of what goes to a goal that is told by a path.
 pub fn goal_path(alloc: Global, to: &str, goal: Goal, name: &[u8]) -> Result<Vec<u8>, AllocError> {
@@ -134,7 +134,7 @@ fn move_one<S: FlushStore + Drop>(
     } else {
         path.as_bytes()
     };
-    let rename = Rename {
+    let rename = Change::Rename {
         directory: from.folder,
         name: from.name,
         new_directory: place.folder,

@@ -10,7 +10,7 @@ use flush_store::FlushStore;
 use std::alloc::Global;
 use tree_lines::{Fault, Opened, Place, Reason, at, at_bytes, find, find_to, last_name, own_name};
 use treefs_format::Kind;
-use treefs_session::{Link, Put};
+use treefs_session::{Change, Put};
 
 /// How many bytes the target of a symbolic link has at most.
 const TARGET_LEN: usize = 4_096;
@@ -48,7 +48,7 @@ fn link_hard<S: FlushStore + Drop>(
     if node.is_folder() {
         return Err(at(alloc, target, Reason::Folder));
     }
-    let link = Link {
+    let link = Change::Link {
         number: node.number,
         directory: place.folder,
         name: place.name,

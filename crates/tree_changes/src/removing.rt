@@ -16,7 +16,7 @@ ghost use Rattle.tree_lines.specs.Walks.{IsUnseen, progress};
 use flush_store::FlushStore;
 use std::alloc::Global;
 use tree_lines::{Fault, Opened, Place, Reason, Step, Visit, Walk, at, own_name, place_of, there};
-use treefs_session::{Rmdir, Unlink};
+use treefs_session::Change;
 
 /// How `rm` removes.
 #[derive(Clone, Copy, Debug)]
@@ -41,7 +41,7 @@ pub fn unlink<S: FlushStore + Drop>(
         (S.state_of opened.old.session.store) (S.state_of opened.new.session.store) opened.old.session.volume opened.new.session.volume) result }
 {
     let (directory, name) = place;
-    opened.make(alloc, path, &Unlink { directory, name })
+    opened.make(alloc, path, &Change::Unlink { directory, name })
 }
 
 /// Takes the name of an empty folder.
@@ -58,7 +58,7 @@ fn end_folder<S: FlushStore + Drop>(
         (S.state_of opened.old.session.store) (S.state_of opened.new.session.store) opened.old.session.volume opened.new.session.volume) result }
 {
     let (directory, name) = place;
-    opened.make(alloc, path, &Rmdir { directory, name })
+    opened.make(alloc, path, &Change::Rmdir { directory, name })
 }
 
 /// Takes the name of an empty folder, or of a file or a symbolic link.

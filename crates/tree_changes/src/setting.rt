@@ -14,7 +14,7 @@ use flush_store::FlushStore;
 use std::alloc::Global;
 use tree_lines::{Fault, Node, Opened, Walk, find};
 use treefs_byte_plans::Attributes;
-use treefs_session::SetAttributes;
+use treefs_session::Change;
 
 /// What is set.
 #[derive(Debug, Drop)]
@@ -60,7 +60,7 @@ fn set_node<S: FlushStore + Drop>(
 {
     match setting.attributes_of(node) {
         Some(settings) => {
-            let set = SetAttributes {
+            let set = Change::SetAttributes {
                 number: node.number,
                 settings,
             };

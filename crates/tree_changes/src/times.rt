@@ -9,7 +9,7 @@ use flush_store::FlushStore;
 use std::alloc::Global;
 use tree_lines::{Fault, Opened, Reason, View, at, place_of};
 use treefs::Volume;
-use treefs_session::{Create, SetMtime, Truncate};
+use treefs_session::{Change, Create};
 
 /// The permissions of a new file.
 const PERMISSIONS: u16 = 0o644;
@@ -95,7 +95,7 @@ fn touch_one<S: FlushStore + Drop>(
         None if is_new => Ok(()),
         _ => {
             let mtime = time.unwrap_or(now);
-            opened.make(alloc, path.as_bytes(), &SetMtime { number, mtime })
+            opened.make(alloc, path.as_bytes(), &Change::SetMtime { number, mtime })
         }
     }
 }
@@ -136,7 +136,7 @@ fn truncate_one<S: FlushStore + Drop>(
         (S.state_of opened.old.session.store) (S.state_of opened.new.session.store) opened.old.session.volume opened.new.session.volume result }
 {
     let (number, _is_new) = find_or_create(opened, alloc, path)?;
-    opened.make(alloc, path.as_bytes(), &Truncate { number, size })
+    opened.make(alloc, path.as_bytes(), &Change::Truncate { number, size })
 }
 
 /// `truncate`: sets the sizes of files, in bytes; what is new is zeros. Where nothing stands a file is made.

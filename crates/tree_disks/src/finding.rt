@@ -5,7 +5,7 @@ use edit_list::Fs;
 use std::alloc::{AllocError, Global};
 use templates::ROOT_SLOTS;
 use treefs::BlockTypes;
-use treefs_format::types::{is_inode_template, is_node_template};
+use treefs_format::types::are_tree_templates;
 use xn_state::Store;
 use xnfs_session::has_volume;
 
@@ -23,18 +23,14 @@ pub enum VolumeKind {
     First,
 }
 
-/// Whether a type is that of inodes of trees.
-fn is_inode_type<S: Store>(store: &S, ty: u8) -> bool {
-    store
-        .template(u32::from(ty))
-        .is_some_and(|template| is_inode_template(template))
-}
-
-/// Whether a type is that of nodes of trees.
-fn is_node_type<S: Store>(store: &S, ty: u8) -> bool {
-    store
-        .template(u32::from(ty))
-        .is_some_and(|template| is_node_template(template))
+/// Whether these types are those of nodes and of inodes of trees.
+fn are_tree_types<S: Store>(store: &S, types: BlockTypes) -> bool {
+    let node = store.template(u32::from(types.node));
+    let inode = store.template(u32::from(types.inode));
+    match (node, inode) {
+        (Some(node), Some(inode)) => are_tree_templates(node, inode),
+        _ => false,
+    }
 }
 
 /// The types of the blocks of a file system's volume of trees, as its inode 0 says them; `None` where it has no such volume.
@@ -47,8 +43,7 @@ fn types_of<S: Store>(store: &S, fs: Fs) -> Option<BlockTypes> {
         node: block[NODE_TYPE],
         inode: block[INODE_TYPE],
     };
-    let is_known = is_inode_type(store, types.inode) && is_node_type(store, types.node);
-    (is_known && u32::from(types.inode) == ty).then_some(types)
+    (are_tree_types(store, types) && u32::from(types.inode) == ty).then_some(types)
 }
 
 /// Which volume a file system has; `None` where it has none that is known.

@@ -11,7 +11,7 @@ use std::thread::Threads;
 use store_types::{BLOCK_LEN, MAX_BLOCKS, MIN_BLOCKS};
 use templates::{FIRST_INSTALLED_TYPE, FormatFault, format_image};
 use treefs::BlockTypes;
-use treefs_format::types::{inode_template, node_template};
+use treefs_format::types::tree_templates;
 use treefs_session::Session;
 use xn_kernel::Kernel;
 
@@ -33,7 +33,7 @@ fn fresh_kernel(
     alloc: Global,
     blocks: u32,
 ) -> Result<Kernel<MemLane>, DiskFault> {
-    let templates = vec![in alloc; node_template(alloc)?, inode_template(alloc)?]?;
+    let templates = tree_templates(alloc)?;
     let image = format_image(alloc, blocks, &templates)?;
     if image.len() % BLOCK_LEN != 0 || image.len() > BLOCK_LEN * MAX_BLOCKS as usize {
         return Err(DiskFault::Image(ImageFault::BadLength));

@@ -2,7 +2,7 @@
 
 use crate::fault::DiskFault;
 use crash_check::{mount, mount_known, state_of};
-use file_disk::{FileDisk, FileImage, FileLane, SystemFault};
+use file_disk::{Access, FileDisk, FileImage, FileLane, SystemFault};
 use std::alloc::Global;
 use std::fs::{File, Files};
 use std::thread::Threads;
@@ -21,11 +21,12 @@ pub fn open<R: Files<File = File>>(
     image: &str,
     is_looking: bool,
 ) -> Result<(Kernel<FileLane>, SystemFault), DiskFault> {
-    let image = if is_looking {
-        FileImage::open_to_read(rt, alloc, image)?
+    let access = if is_looking {
+        Access::Shared
     } else {
-        FileImage::open(rt, alloc, image)?
+        Access::Written
     };
+    let image = FileImage::open(rt, alloc, image, access)?;
     let state = state_of(threads, alloc, image.bytes())?;
     let disk = image.into_disk(alloc)?;
     let system = disk.system_fault()?;
@@ -40,7 +41,7 @@ pub fn open_for_tests<R: Files<File = File>>(
     image: &str,
     (stop, is_synced): (&Stop, bool),
 ) -> Result<(Kernel<TestLane<FileLane>>, SystemFault), DiskFault> {
-    let disk = FileDisk::open(rt, alloc, image)?;
+    let disk = FileDisk::open(rt, alloc, image, Access::Written)?;
     let system = disk.system_fault()?;
     let lanes = stop.lanes(alloc, disk.into_lanes(), is_synced)?;
     match mount(threads, alloc, lanes, KERNEL) {

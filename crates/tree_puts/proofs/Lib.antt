@@ -8,3 +8,5 @@ mod Beside
 mod Foldered
 mod Stepped
 mod Going
+mod SourcesPut
+mod PutSome

@@ -8,3 +8,4 @@ pub mod Linking
 pub mod Files
 pub mod Folders
 pub mod Trees
+pub mod Sources

@@ -19,7 +19,7 @@ use treefs_byte_plans::{Attributes as Settings, Owner};
 use treefs_format::Kind;
 use treefs_format::inodes::CONTENT_LEN;
 use treefs_format::sizes::{GREATEST_SIZE, LEAF_LEN};
-use treefs_session::{Begin, Commit, Put, SetAttributes, SetMtime, Target};
+use treefs_session::{Begin, Change, Commit, Put, Target};
 
 /// What a line that brings files in keeps.
 pub struct Arriving<'a, H: Host> {
@@ -151,7 +151,7 @@ impl<'a, H: Host> Arriving<'a, H> {
         ensures does { Performs (S.types_of volume.old.session.store) volume.old.folder (SetsTime number mtime result)
             (S.state_of volume.old.session.store) (S.state_of volume.new.session.store) volume.old.session.volume volume.new.session.volume }
     {
-        volume.make(self.alloc, path, &SetMtime { number, mtime })
+        volume.make(self.alloc, path, &Change::SetMtime { number, mtime })
     }
 
     /// Sets all that the system tells of a folder that was there.
@@ -176,7 +176,11 @@ impl<'a, H: Host> Arriving<'a, H> {
             }),
             mtime: Some(told.modified),
         };
-        volume.make(self.alloc, path, &SetAttributes { number, settings })
+        volume.make(
+            self.alloc,
+            path,
+            &Change::SetAttributes { number, settings },
+        )
     }
 
     /// That a disk may have so many bytes more: no file is longer than the greatest, and one that has fewer blocks than they take has no space

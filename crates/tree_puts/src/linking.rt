@@ -10,7 +10,7 @@ use crate::arriving::{Arriving, Goods};
 use flush_store::FlushStore;
 use host_trees::Host;
 use tree_lines::{Fault, Opened, Place, Reason, at_bytes, there};
-use treefs_session::{Link, Rename, Unlink};
+use treefs_session::Change;
 
 /// So many names are tried for what has no name of its own yet.
 const MOST_NAMES: u32 = 10_000;
@@ -55,7 +55,7 @@ fn link_as<H: Host, S: FlushStore + Drop>(
     ensures does { Performs (S.types_of volume.old.session.store) volume.old.folder (LinksAs goods.entry number name.now result)
         (S.state_of volume.old.session.store) (S.state_of volume.new.session.store) volume.old.session.volume volume.new.session.volume }
 {
-    let link = Link {
+    let link = Change::Link {
         number,
         directory: goods.place.folder,
         name,
@@ -77,7 +77,7 @@ pub fn move_to_place<H: Host, S: FlushStore + Drop>(
         (S.state_of volume.old.session.store) (S.state_of volume.new.session.store) volume.old.session.volume volume.new.session.volume }
 {
     let directory = goods.place.folder;
-    let rename = Rename {
+    let rename = Change::Rename {
         directory,
         name: name.as_bytes(),
         new_directory: directory,
@@ -106,7 +106,7 @@ pub fn take_back<H: Host, S: FlushStore + Drop>(
     if volume.is_broken() {
         return;
     }
-    let unlink = Unlink {
+    let unlink = Change::Unlink {
         directory: goods.place.folder,
         name: name.as_bytes(),
     };

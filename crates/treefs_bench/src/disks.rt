@@ -8,7 +8,7 @@ use std::alloc::{AllocError, Global};
 use std::thread::Threads;
 use templates::format_image;
 use treefs::BlockTypes;
-use treefs_format::types::{inode_template, node_template};
+use treefs_format::types::tree_templates;
 use treefs_session::Session;
 use xn_kernel::Kernel;
 
@@ -32,7 +32,7 @@ fn fresh_kernel(
     rt: &(impl Threads + Sync),
     alloc: Global,
 ) -> Result<Option<Kernel<MemLane>>, AllocError> {
-    let templates = vec![in alloc; node_template(alloc)?, inode_template(alloc)?]?;
+    let templates = tree_templates(alloc)?;
     let Ok(image) = format_image(alloc, BLOCKS, &templates) else {
         return Ok(None);
     };

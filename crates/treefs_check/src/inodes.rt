@@ -14,14 +14,13 @@ ghost use Rattle.treefs_check.specs.Inodes.{
   parent_finding,
   surplus_count,
 };
-ghost use Rattle.treefs_mending.specs.Inodes.{inode_plan};
 
 use crate::finding::Finding;
 use std::alloc::AllocError;
 use treefs_edits::Tree;
 use treefs_format::sizes::GREATEST_SIZE;
 use treefs_lookup::is_trimmed;
-use treefs_mending::{InodePlan, Name, Numbered, Survey, next_inode, plan_inode, tally_at};
+use treefs_mending::{Name, Numbered, Survey, next_inode, plan_inode, tally_at};
 use xn_state::Store;
 
 /// How many names that are one too many lead to the inode of a number.
@@ -70,13 +69,6 @@ fn parent_finding(numbered: &Numbered, parent: Option<u32>) -> Option<Finding>
     parent.map(|_| Finding::Parent(numbered.number))
 }
 
-/// What a mount would change of an inode.
-fn plan_of(survey: &Survey, numbered: &Numbered) -> InodePlan
-    ensures { result ≡ inode_plan survey.now.tallies numbered.now.number numbered.now.inode }
-{
-    plan_inode(&survey.tallies, numbered.number, &numbered.inode)
-}
-
 /// Adds a finding, if there is one.
 fn push_if(findings: &mut Vec<Finding>, finding: Option<Finding>) -> Result<(), AllocError>
     ensures { IfOk result (λ _. findings.new.items ≡ findings.old.items ++ if_finding finding) }
@@ -120,7 +112,7 @@ fn push_inode<S: Store>(
     ensures { IfOk result (λ _. (found : List Finding) × AreOfInode (readable (S.state_of store.now) tree.fs.number) survey.now numbered.now found
         × (findings.new.items ≡ findings.old.items ++ found)) }
 {
-    let plan = plan_of(survey, numbered);
+    let plan = plan_inode(&survey.tallies, numbered.number, &numbered.inode);
     push_if(findings, links_finding(survey, numbered, plan.links))?;
     push_if(findings, parent_finding(numbered, plan.parent))?;
     push_if(findings, long_finding(numbered))?;

@@ -8,7 +8,7 @@ use std::alloc::{AllocError, Global};
 use std::thread::Threads;
 use templates::format_image;
 use treefs::BlockTypes;
-use treefs_format::types::{inode_template, node_template};
+use treefs_format::types::tree_templates;
 use treefs_session::Session;
 use xn_kernel::Kernel;
 
@@ -26,7 +26,7 @@ const TYPES: BlockTypes = BlockTypes { node: 3, inode: 4 };
 
 /// The lanes of a fresh disk.
 fn fresh_lanes(alloc: Global, blocks: u32) -> Result<Option<Lanes<MemLane>>, AllocError> {
-    let templates = vec![in alloc; node_template(alloc)?, inode_template(alloc)?]?;
+    let templates = tree_templates(alloc)?;
     let Ok(image) = format_image(alloc, blocks, &templates) else {
         return Ok(None);
     };

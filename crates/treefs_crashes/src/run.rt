@@ -11,9 +11,7 @@ use treefs::Attributes;
 use treefs_check::check;
 use treefs_format::Kind;
 use treefs_model::Fault;
-use treefs_session::{
-    Create, Link, Mkdir, Put, Rename, Rmdir, Session, Symlink, Target, Truncate, Unlink,
-};
+use treefs_session::{Change, Create, Mkdir, Put, Session, Symlink, Target};
 
 /// How many bytes a file has at most.
 const GREATEST: u16 = 12_000;
@@ -252,13 +250,13 @@ impl Run {
             let wanted = self.model.removing(place, index);
             (
                 wanted,
-                session.make(alloc, &self.held, &Rmdir { directory, name }),
+                session.make(alloc, &self.held, &Change::Rmdir { directory, name }),
             )
         } else {
             let wanted = self.model.unlinking(place, index);
             (
                 wanted,
-                session.make(alloc, &self.held, &Unlink { directory, name }),
+                session.make(alloc, &self.held, &Change::Unlink { directory, name }),
             )
         };
         let gone = self.model.find(place, index);
@@ -289,7 +287,7 @@ impl Run {
         };
         let index = self.pick_name();
         let bytes = name(alloc, index)?;
-        let link = Link {
+        let link = Change::Link {
             number: self.model.number(file),
             directory: self.model.number(place),
             name: &bytes,
@@ -316,7 +314,7 @@ impl Run {
         };
         let (index, new_index) = (self.pick_name(), self.pick_name());
         let (old_name, new_name) = (name(alloc, index)?, name(alloc, new_index)?);
-        let rename = Rename {
+        let rename = Change::Rename {
             directory: self.model.number(from),
             name: &old_name,
             new_directory: self.model.number(to),
@@ -413,7 +411,7 @@ impl Run {
         };
         let size = u64::from(self.numbers.below(GREATEST));
         let number = self.model.number(place);
-        let answer = session.make(alloc, &self.held, &Truncate { number, size });
+        let answer = session.make(alloc, &self.held, &Change::Truncate { number, size });
         let is_done = self.is_done(Ok(()), answer);
         if !is_done {
             return self.read_back(alloc, session, place);

@@ -1,7 +1,6 @@
 -- The blocks of the two types spell their templates.
 use Rattle.std.proofs.Common.{◌≡◌, ◌-◌, ◌++◌, length, ap, refl, sym, ◌∙◌}
-use Rattle.std.specs.Prelude.{◌↔◌, Result, Ok, Err, IfOk}
-use Rattle.std.specs.declared.alloc.AllocError.{AllocError}
+use Rattle.std.specs.Prelude.{◌↔◌, Result, Ok}
 use Rattle.xn_model.specs.BareDisks.{zeros}
 use Rattle.templates.specs.declared.fault.TemplateFault.{TemplateFault}
 use Rattle.templates.specs.Templates.{TemplateValue}
@@ -25,11 +24,3 @@ node_known t = (λ e. same_Ok t node_template (sym e ∙ node_block), λ e. node
 
 pub inode_known : (t : TemplateValue) → (template_of_bytes (INODE ++ zeros (512 - length INODE)) ≡ Ok t) ↔ (t ≡ inode_template)
 inode_known t = (λ e. same_Ok t inode_template (sym e ∙ inode_block), λ e. inode_block ∙ ap (λ x. Ok x) (sym e))
-
-pub node_read : (r : Result TemplateValue AllocError) → IfOk r (λ t. template_of_bytes (NODE ++ zeros (512 - length NODE)) ≡ Ok t) → IfOk r (λ t. t ≡ node_template)
-node_read (Ok t) e = (node_known t).0 e
-node_read (Err fault) e = e
-
-pub inode_read : (r : Result TemplateValue AllocError) → IfOk r (λ t. template_of_bytes (INODE ++ zeros (512 - length INODE)) ≡ Ok t) → IfOk r (λ t. t ≡ inode_template)
-inode_read (Ok t) e = (inode_known t).0 e
-inode_read (Err fault) e = e

@@ -9,4 +9,5 @@ pub mod Loops
 pub mod Puts
 pub mod Changes
 pub mod PathsOfLeaves
+pub mod Stated
 pub mod ForCallers

@@ -1,6 +1,6 @@
 // The templates of the two types of blocks, nodes and inodes.
 
-ghost use Rattle.std.specs.Prelude.{◌≡◌, ◌↔◌, ◌≤◌, ◌-◌, ◌++◌, length, Ok, IsOk, IfOk, IsTrue};
+ghost use Rattle.std.specs.Prelude.{◌≡◌, ◌↔◌, ◌≤◌, ◌-◌, ◌++◌, [], ◌∷◌, length, Ok, IsOk, IfOk, IsTrue};
 ghost use Rattle.xn_model.specs.BareDisks.{zeros};
 ghost use Rattle.templates.specs.Reading.{template_of_bytes};
 ghost use Rattle.treefs_format.specs.Templates.{inode_template, node_template};
@@ -90,30 +90,18 @@ fn is_spelled(template: &Template, start: &[u8]) -> bool
     write_block(template) == block_of(start)
 }
 
-/// Whether a template is that of nodes. It takes no memory.
-pub fn is_node_template(template: &Template) -> bool
-    ensures { IsTrue result ↔ (template.now ≡ node_template) }
+/// Whether these are the templates of nodes and of inodes. It takes no memory.
+pub fn are_tree_templates(node: &Template, inode: &Template) -> bool
+    ensures { IsTrue result ↔ (node.now ≡ node_template) × (inode.now ≡ inode_template) }
 {
-    is_spelled(template, &NODE)
+    is_spelled(node, &NODE) && is_spelled(inode, &INODE)
 }
 
-/// Whether a template is that of inodes. It takes no memory.
-pub fn is_inode_template(template: &Template) -> bool
-    ensures { IsTrue result ↔ (template.now ≡ inode_template) }
+/// The templates of nodes and of inodes, in this order. `Err` comes only for want of memory.
+pub fn tree_templates(alloc: Global) -> Result<[Template; 2], AllocError>
+    ensures { IfOk result (λ templates. templates ≡ node_template ∷ inode_template ∷ []) }
 {
-    is_spelled(template, &INODE)
-}
-
-/// The template of nodes. `Err` comes only for want of memory.
-pub fn node_template(alloc: Global) -> Result<Template, AllocError>
-    ensures { IfOk result (λ template. template ≡ node_template) }
-{
-    known_template(alloc, &NODE)
-}
-
-/// The template of inodes. `Err` comes only for want of memory.
-pub fn inode_template(alloc: Global) -> Result<Template, AllocError>
-    ensures { IfOk result (λ template. template ≡ inode_template) }
-{
-    known_template(alloc, &INODE)
+    let node = known_template(alloc, &NODE)?;
+    let inode = known_template(alloc, &INODE)?;
+    Ok([node, inode])
 }

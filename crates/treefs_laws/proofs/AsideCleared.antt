@@ -10,7 +10,6 @@ use Rattle.treefs_edits.specs.Written.{written}
 use Rattle.treefs_edits.specs.declared.tree.Tree.{Tree}
 use Rattle.treefs_values.specs.Dropped.{AreDropped, AreOverPointers, IsHolderWay, IsLedTo, clear_act, with_blocks}
 use Rattle.treefs_values.specs.Kinds.{kinds}
-use Rattle.treefs_values.specs.KnownLayout.{IsLayout}
 use Rattle.treefs_values.proofs.ForCallers.{IsAt}
 use Rattle.treefs_laws.specs.Unnamed.{IsReadAlike}
 use Rattle.treefs_laws.proofs.AsideTree.{IsAside}
@@ -19,7 +18,7 @@ use Rattle.treefs_laws.proofs.ClearedPointers.{are_cleared, clears, still_whole,
 use Rattle.treefs_laws.proofs.PointersGone.{IsGone, IsOf, IsRoot, still_unled, unled_alike, unled_inode, unled_leaf, volume_stays}
 use Rattle.treefs_laws.proofs.WaysApart.{IsInodeBlock}
 
-module _ (T : Types) (tree : Tree) (known : IsLayout) (old new : StoreState) (here : IsAt T tree.fs.number tree.node_type tree.inode_type tree.top old)
+module _ (T : Types) (tree : Tree) (old new : StoreState) (here : IsAt T tree.fs.number tree.node_type tree.inode_type tree.top old)
     (r : ℕ) (r_is : IsInodeBlock tree.node_type tree.inode_type (kinds old tree.fs.number) (readable old tree.fs.number) r)
     (q : List ℕ) (way : IsHolderWay q) (there : block_at (readable old tree.fs.number) r q ≢ 0) (places : List (ℕ × ℕ)) (blocks : List ℕ) (behind : Option ℕ)
     (over : All (AreOverPointers tree.node_type tree.inode_type (kinds old tree.fs.number (block_at (readable old tree.fs.number) r q))) places)
@@ -53,37 +52,37 @@ module _ (T : Types) (tree : Tree) (known : IsLayout) (old new : StoreState) (he
   type' = with_blocks type blocks 0
 
   cleared : AreDropped node inode type type' content later (block_at content r q) places
-  cleared = are_cleared T tree known old new here r r_is q way there places blocks behind over led act no_adds at_block drops writes ran
+  cleared = are_cleared T tree old new here r r_is q way there places blocks behind over led act no_adds at_block drops writes ran
 
   module _ (c : ℕ) (a : IsAside tree.node_type tree.inode_type tree.top c (kinds old tree.fs.number) (readable old tree.fs.number)) where
     leaf_left : (i : ℕ) → leaf_block later c i ≢ 0 →
         (leaf_block later c i ≡ leaf_block content c i) × (type' (leaf_block content c i) ≡ type (leaf_block content c i))
-    leaf_left = unled_leaf node inode tree.top type type' content later here.volume known r r_some r_is stands q way there places cleared of c a.is_block
+    leaf_left = unled_leaf node inode tree.top type type' content later here.volume r r_some r_is stands q way there places cleared of c a.is_block
         a.unled
 
     left_aside : IsAside node inode tree.top c type' later
     left_aside = record {
-      volume = volume_stays node inode tree.top type type' content later here.volume known r r_some r_is stands q way there places cleared of
-          (still_whole T tree known old new here r r_is q way there places blocks behind over led act no_adds at_block drops writes ran);
+      volume = volume_stays node inode tree.top type type' content later here.volume r r_some r_is stands q way there places cleared of
+          (still_whole T tree old new here r r_is q way there places blocks behind over led act no_adds at_block drops writes ran);
       there = a.there;
       no_root = a.no_root;
-      is_block = unled_inode node inode tree.top type type' content later here.volume known r r_some r_is stands q way there places cleared of c a.is_block
+      is_block = unled_inode node inode tree.top type type' content later here.volume r r_some r_is stands q way there places cleared of c a.is_block
           a.unled;
       leaves = λ i few some. let l = leaf_left i some in ap type' l.0 ∙ (l.1 ∙ a.leaves i few (λ z. some (l.0 ∙ z)));
-      unled = still_unled node inode tree.top type type' content later here.volume known r r_some r_is stands q way there places cleared of c a.there a.unled;
+      unled = still_unled node inode tree.top type type' content later here.volume r r_some r_is stands q way there places cleared of c a.there a.unled;
     }
 
   pub cleared_alike : (c : ℕ) → IsAside tree.node_type tree.inode_type tree.top c (kinds old tree.fs.number) (readable old tree.fs.number) → c ≢ r →
       IsReadAlike (readable old tree.fs.number) (readable new tree.fs.number) c
   cleared_alike c a other =
       subst (λ m. IsReadAlike content m c)
-      (sym (clears T tree known old new here r r_is q way there places blocks behind over led act no_adds at_block drops writes ran))
-      (unled_alike node inode tree.top type type' content later here.volume known r r_some r_is stands q way there places cleared of c a.is_block a.unled
+      (sym (clears T tree old new here r r_is q way there places blocks behind over led act no_adds at_block drops writes ran))
+      (unled_alike node inode tree.top type type' content later here.volume r r_some r_is stands q way there places cleared of c a.is_block a.unled
       a.no_root other)
 
   pub cleared_aside : StaysAside tree old new
   cleared_aside c a =
       subst (λ t. IsAside node inode tree.top c t (readable new fs))
-      (sym (unread T tree known old new here r r_is q way there places blocks behind over led act no_adds at_block drops writes ran))
+      (sym (unread T tree old new here r r_is q way there places blocks behind over led act no_adds at_block drops writes ran))
       (subst (λ m. IsAside node inode tree.top c type' m)
-      (sym (clears T tree known old new here r r_is q way there places blocks behind over led act no_adds at_block drops writes ran)) (left_aside c a))
+      (sym (clears T tree old new here r r_is q way there places blocks behind over led act no_adds at_block drops writes ran)) (left_aside c a))

@@ -21,6 +21,7 @@ use Rattle.treefs_format.specs.declared.fields.Change.TheVariants.{Ctime, Gid, L
 use Rattle.treefs_format.specs.Inodes.{content_patch, pointers_of}
 use Rattle.treefs_format.specs.Paths.{leaf_count}
 use Rattle.treefs_format.specs.Templates.{IsTree}
+use Rattle.treefs_format.proofs.ForCallers.{content_others, fields_others}
 use Rattle.treefs_lookup.specs.Readable.{readable}
 use Rattle.treefs_model.specs.Acts.{Act, Made, Ran, bytes_act, changes_act, edit_in, patch_act, wait_act}
 use Rattle.treefs_model.specs.Reading.{files_of, leaf_block, pointed}
@@ -34,7 +35,6 @@ use Rattle.treefs_edits.specs.declared.times.Times.{Times}
 use Rattle.treefs_byte_plans.specs.Fields.{size_acts, size_changes}
 use Rattle.treefs_byte_plans.specs.Sizes.{zero_parts}
 use Rattle.treefs_values.specs.Kinds.{kinds}
-use Rattle.treefs_values.specs.KnownLayout.{IsLayout}
 use Rattle.treefs_values.specs.Parts.{IsChangedAt}
 use Rattle.treefs_values.specs.Values.{KeepsBlocks}
 use Rattle.treefs_values.specs.Volumes.{IsWholeBlock}
@@ -137,10 +137,10 @@ module _ (node inode top c : ℕ) (type : ℕ → ℕ) (m : ℕ → List ℕ) (a
   pub whole_own : IsWholeBlock (m c)
   whole_own = a.volume.blocks c (λ z. a.volume.some_types.1 (sym a.is_block.typed ∙ z))
 
-pub sizes_adjoin : IsLayout → (m : List ℕ) → IsWholeBlock m → (o : Option ℕ) (times : Times) →
+pub sizes_adjoin : (m : List ℕ) → IsWholeBlock m → (o : Option ℕ) (times : Times) →
     pointers_of (patched m (changes_patch (size_changes o times) ∷ [])) ≡ pointers_of m
-sizes_adjoin known m whole None times = (known.changes_others m (size_changes None times) whole.0 refl).0
-sizes_adjoin known m whole (Some size) times = (known.changes_others m (size_changes (Some size) times) whole.0 refl).0
+sizes_adjoin m whole None times = (fields_others m (size_changes None times) whole.0 refl).0
+sizes_adjoin m whole (Some size) times = (fields_others m (size_changes (Some size) times) whole.0 refl).0
 
 -- the first of some edits is refused, or made
 pub ran_first : (T : Types) (fs : ℕ) (act : Act) (acts : List Act) (s new : StoreState) (result : Result (Unit {0}) Refusal) →
@@ -154,7 +154,7 @@ ran_first T fs act acts s new result (inl refused) = by result refused
     by (Ok done) none = absurd none
     by (Err reason) made = inl (gives_none (propose_of T s fs act.block (edit_in act s)) s new reason made)
 
-module _ (T : Types) (fs node inode top c : ℕ) (few : fs < 32) (tree : IsTree T node inode) (known : IsLayout) where
+module _ (T : Types) (fs node inode top c : ℕ) (few : fs < 32) (tree : IsTree T node inode) where
   abbrev At : StoreState → Type 0
   At = IsAsideAt T fs node inode top c few tree
 
@@ -236,7 +236,7 @@ module _ (T : Types) (fs node inode top c : ℕ) (few : fs < 32) (tree : IsTree 
         made_aside (patch_act c patches behind) new entry refl made placed.0 placed.1
 
     adjoin : (o : Option ℕ) (times : Times) → pointers_of (patched (content c) (changes_patch (size_changes o times) ∷ [])) ≡ pointers_of (content c)
-    adjoin = sizes_adjoin known (content c) own_whole
+    adjoin = sizes_adjoin (content c) own_whole
 
     -- of its size and its times
     pub size_made : (o : Option ℕ) (times : Times) (behind : Option ℕ) (new : StoreState) (entry : ℕ) →
@@ -251,7 +251,7 @@ module _ (T : Types) (fs node inode top c : ℕ) (few : fs < 32) (tree : IsTree 
         IsDone (patch_act c (content_patch at_byte bytes ∷ changes_patch (size_changes o times) ∷ []) None) new
     content_made at_byte bytes o times new entry fits range made =
         own_made (content_patch at_byte bytes ∷ changes_patch (size_changes o times) ∷ []) None new entry made
-        (sizes_adjoin known m m_whole o times ∙ (known.content_others (content c) bytes at_byte own_whole.0 fits).1) (sizes_whole m o times m_whole)
+        (sizes_adjoin m m_whole o times ∙ (content_others (content c) bytes at_byte own_whole.0 fits).1) (sizes_whole m o times m_whole)
       where
         m : List ℕ
         m = patched (content c) (content_patch at_byte bytes ∷ [])
@@ -264,7 +264,7 @@ module _ (T : Types) (fs node inode top c : ℕ) (few : fs < 32) (tree : IsTree 
         Made T fs (patch_act c (zero_parts (Some (128 + at_byte))) None) s new (Ok entry) → IsDone (patch_act c (zero_parts (Some (128 + at_byte))) None) new
     own_blanked at_byte low new entry made =
         own_made (zero_parts (Some (128 + at_byte))) None new entry made
-        (known.content_others (content c) (replicate (512 - (128 + at_byte)) 0) at_byte own_whole.0 (let l = long in omega arith)).1
+        (content_others (content c) (replicate (512 - (128 + at_byte)) 0) at_byte own_whole.0 (let l = long in omega arith)).1
         (whole_put (content c) (replicate (512 - (128 + at_byte)) 0) (128 + at_byte) own_whole
         (All-replicate (λ b. b < 256) (512 - (128 + at_byte)) 0 (omega arith)) (let l = long in omega arith))
       where

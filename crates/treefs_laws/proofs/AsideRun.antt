@@ -11,6 +11,7 @@ use Rattle.xn_model.specs.Lives.{StoreState}
 use Rattle.treefs_format.specs.Fields.{fields_of}
 use Rattle.treefs_format.specs.Nodes.{node_bytes}
 use Rattle.treefs_format.specs.Templates.{IsTree}
+use Rattle.treefs_format.proofs.ForCallers.{node_children, node_long}
 use Rattle.treefs_lookup.specs.Readable.{readable}
 use Rattle.treefs_model.specs.Acts.{Act, Made, Ran, attach_act, wait_act}
 use Rattle.treefs_model.specs.Reading.{block_at, files_of, pointed}
@@ -20,14 +21,12 @@ use Rattle.treefs_edits.specs.Written.{written}
 use Rattle.treefs_byte_plans.specs.Runs.{attach_acts}
 use Rattle.treefs_values.specs.Attached.{IsPointerSet}
 use Rattle.treefs_values.specs.Kinds.{kinds}
-use Rattle.treefs_values.specs.KnownLayout.{IsLayout}
 use Rattle.treefs_values.specs.Volumes.{IsWholeBlock}
 use Rattle.treefs_values.specs.Ways.{IsWay}
-use Rattle.treefs_values.proofs.ForCallers.{AreNew, AreOf, IsNew, IsOther, New, bare_node, blocks_in, new_kept, new_parts, onto, way_first}
+use Rattle.treefs_values.proofs.ForCallers.{AreNew, AreOf, IsNew, IsOther, New, bare_node, blocks_in, new_kept, new_parts, onto, pointer_attached, way_first}
 use Rattle.treefs_laws.proofs.AsideBegun.{IsAsideAt, Stays, stays_then}
 use Rattle.treefs_laws.proofs.AsideEdits.{IsDone, made_aside, ran_first, wait_made}
 use Rattle.treefs_laws.proofs.AsideTree.{IsAside, new_other, set_above, set_aside, set_files, set_new, set_there}
-use Rattle.treefs_laws.proofs.Attaching.{AreAttached}
 use Rattle.treefs_laws.proofs.LeavesAttached.{way_stands, way_up}
 use Rattle.treefs_laws.proofs.NodesAttached.{IsNext}
 use Rattle.treefs_laws.proofs.PointersPatched.{attach_each, attach_many}
@@ -39,7 +38,7 @@ blocks_rest zero xs = refl
 blocks_rest (suc k) [] = refl
 blocks_rest (suc k) (x ∷ xs) = blocks_rest k xs
 
-module _ (laws : AreAttached) (node inode top c : ℕ) (type : ℕ → ℕ) where
+module _ (node inode top c : ℕ) (type : ℕ → ℕ) where
   abbrev Aside : (ℕ → List ℕ) → Type 0
   Aside m = IsAside node inode top c type m
 
@@ -68,7 +67,7 @@ module _ (laws : AreAttached) (node inode top c : ℕ) (type : ℕ → ℕ) wher
     whole = a.volume.blocks h (of_types node inode (type h) off a.volume.some_types.0 a.volume.some_types.1 (has_at off l way))
 
     both : IsPointerSet node inode type m with_next h off x.block × IsWholeBlock (with_next h)
-    both = laws.set node inode type m h off ty x.block None a.volume.types.0 h_there whole (has_at off l way) none is_new.within
+    both = pointer_attached node inode type m h off ty x.block None a.volume.types.0 h_there whole (has_at off l way) none is_new.within
 
     x_other : x.block ≢ c
     x_other = not_own m a x is_new plain
@@ -172,7 +171,7 @@ module _ (laws : AreAttached) (node inode top c : ℕ) (type : ℕ → ℕ) wher
               zero_there);
         }
 
-module _ (laws : AreAttached) (T : Types) (fs node inode top c : ℕ) (few : fs < 32) (tree : IsTree T node inode) (known : IsLayout) where
+module _ (T : Types) (fs node inode top c : ℕ) (few : fs < 32) (tree : IsTree T node inode) where
   abbrev At : StoreState → Type 0
   At = IsAsideAt T fs node inode top c few tree
 
@@ -183,7 +182,7 @@ module _ (laws : AreAttached) (T : Types) (fs node inode top c : ℕ) (few : fs 
 
   module _ (q : List ℕ) (h : ℕ) (h_there : h ≢ 0) (later : List Act) where
     abbrev Free : StoreState → ℕ → ℕ → Type 0
-    Free s off j = IsFreePlace laws node inode top c (kinds s fs) (readable s fs) q h off j
+    Free s off j = IsFreePlace node inode top c (kinds s fs) (readable s fs) q h off j
 
     -- they are made, and the holder stands where it stood
     abbrev pub AreRan : StoreState → StoreState → Result (Unit {0}) Refusal → Type 0
@@ -200,7 +199,7 @@ module _ (laws : AreAttached) (T : Types) (fs node inode top c : ℕ) (few : fs 
     -- an edit that attaches some of them
     module _ (s : StoreState) (at : IsAsideAt T fs node inode top c few tree s) (h_is : block_at (readable s fs) c q ≡ h) (xs ys : List New) (off : ℕ)
         (news : AreNew node inode (kinds s fs) (readable s fs) top (xs ++ ys)) (all_typed : All (λ (z : New). z.ty ≡ 2) xs) (more_typed : All (λ (z : New). z.ty ≡ 2) ys)
-        (free : (j : ℕ) → j < length xs → IsFreePlace laws node inode top c (kinds s fs) (readable s fs) q h off j) where
+        (free : (j : ℕ) → j < length xs → IsFreePlace node inode top c (kinds s fs) (readable s fs) q h off j) where
       parts : AreNew node inode (kinds s fs) (readable s fs) top xs × AreNew node inode (kinds s fs) (readable s fs) top ys
           × All (λ y. All (λ x. IsOther x y) xs) ys
       parts = new_parts node inode top (kinds s fs) (readable s fs) xs ys news
@@ -208,8 +207,8 @@ module _ (laws : AreAttached) (T : Types) (fs node inode top c : ℕ) (few : fs 
       abbrev together : ℕ → List ℕ
       together = attach_each h off (blocks_in xs) (readable s fs)
 
-      pub beside : AreBeside laws node inode top c (kinds s fs) q h (off + 4 * length xs) ys (readable s fs) together
-      beside = leaves_aside laws node inode top c (kinds s fs) at.aside.volume.types.2 q h h_there xs off (readable s fs) at.aside h_is parts.0 all_typed free ys
+      pub beside : AreBeside node inode top c (kinds s fs) q h (off + 4 * length xs) ys (readable s fs) together
+      beside = leaves_aside node inode top c (kinds s fs) at.aside.volume.types.2 q h h_there xs off (readable s fs) at.aside h_is parts.0 all_typed free ys
           parts.1 (λ i d lt same. at.aside.volume.types.2 (sym (more_typed i d lt) ∙ same)) parts.2
 
       pub together_is : written (attach_act h off 2 (blocks_in xs) None) (readable s fs) ≡ together
@@ -262,7 +261,7 @@ module _ (laws : AreAttached) (T : Types) (fs node inode top c : ℕ) (few : fs 
         free_xs : (j : ℕ) → j < length xs → Free s off j
         free_xs j lt = let less = xs_less in free j (omega arith)
 
-        b : AreBeside laws node inode top c (kinds s fs) q h (off + 4 * length xs) ys (readable s fs) (attach_each h off (blocks_in xs) (readable s fs))
+        b : AreBeside node inode top c (kinds s fs) q h (off + 4 * length xs) ys (readable s fs) (attach_each h off (blocks_in xs) (readable s fs))
         b = beside s at h_is xs ys off news' data_xs data_ys free_xs
 
         act : Act
@@ -280,7 +279,7 @@ module _ (laws : AreAttached) (T : Types) (fs node inode top c : ℕ) (few : fs 
         next : ((there : StoreState) → Again there) → (entry : ℕ) (middle : StoreState) → Made T fs act s middle (Ok entry) →
             Ran T fs (attach_acts n h (off + 64) (drop 16 (blocks_in zs)) ++ later) middle new result → AreRan s new result
         next again entry middle made rest =
-            let done = made_aside T fs node inode top c few tree known s at act middle entry refl made
+            let done = made_aside T fs node inode top c few tree s at act middle entry refl made
             (subst (IsAside node inode top c (kinds s fs)) (sym writes) b.aside) (ap (λ m. files_of m top) writes ∙ b.files) in
             let reads : readable middle fs ≡ attach_each h off (blocks_in xs) (readable s fs) = done.1 ∙ writes in
             let types : kinds middle fs ≡ kinds s fs = done.2 in
@@ -373,13 +372,13 @@ module _ (laws : AreAttached) (T : Types) (fs node inode top c : ℕ) (few : fs 
           All-cons (λ (z : New). z.ty ≢ inode) z zs (λ is. at.aside.volume.types.0 (sym of.0 ∙ is)) (nodes_plain os zs of.2 y)
 
       said : m1 x.block ≡ node_bytes child
-      said = next_bytes laws node inode top c (kinds s fs) (readable s fs) at.aside l off q first.1 h h_is h_there x news.0 plain as_node as_data none node ∙ of.1
+      said = next_bytes node inode top c (kinds s fs) (readable s fs) at.aside l off q first.1 h h_is h_there x news.0 plain as_node as_data none node ∙ of.1
 
       keeps_one : (y : New) → IsNew node inode (kinds s fs) (readable s fs) top y → y.ty ≢ inode → IsOther x y → IsNew node inode (kinds s fs) m1 top y
-      keeps_one = next_new laws node inode top c (kinds s fs) (readable s fs) at.aside l off q first.1 h h_is h_there x news.0 plain as_node as_data none node
+      keeps_one = next_new node inode top c (kinds s fs) (readable s fs) at.aside l off q first.1 h h_is h_there x news.0 plain as_node as_data none node
 
       own_one : fields_of (m1 c) ≡ fields_of (readable s fs c)
-      own_one = next_fields laws node inode top c (kinds s fs) (readable s fs) at.aside l off q first.1 h h_is h_there x news.0 plain as_node as_data none node
+      own_one = next_fields node inode top c (kinds s fs) (readable s fs) at.aside l off q first.1 h h_is h_there x news.0 plain as_node as_data none node
 
       -- what the rest has to begin with
       pub record IsStarted (middle : StoreState) : Type 0 where
@@ -388,16 +387,16 @@ module _ (laws : AreAttached) (T : Types) (fs node inode top c : ℕ) (few : fs 
         pub types : kinds middle fs ≡ kinds s fs
         pub ran : Ran T fs rest_acts middle new result
 
-      started : (middle : StoreState) → IsDone T fs node inode top c few tree known s at attach middle → Ran T fs (wait ∷ rest_acts) middle new result →
+      started : (middle : StoreState) → IsDone T fs node inode top c few tree s at attach middle → Ran T fs (wait ∷ rest_acts) middle new result →
           Stays T fs node inode top c few tree s new ⊎ ((left : StoreState) × IsStarted left)
       started middle done ran =
           let reads : readable middle fs ≡ m1 = done.1 in
           elim (ran_first T fs wait rest_acts middle new result ran) [
             | inl same ↦ inl (subst (Stays T fs node inode top c few tree s) (sym same) done.0)
             | inr (entry, next, made, rest) ↦
-                let w = wait_made T fs node inode top c few tree known middle done.0.0 x.block child h next entry
+                let w = wait_made T fs node inode top c few tree middle done.0.0 x.block child h next entry
                 (sym (ap (λ m. slice_index (m x.block) 0) reads ∙ ap (λ bs. slice_index bs 0) said))
-                (subst (λ bs. 0 < length bs) (sym (ap (λ m. m x.block) reads ∙ said)) (let long = known.node_long child in omega arith)) made in
+                (subst (λ bs. 0 < length bs) (sym (ap (λ m. m x.block) reads ∙ said)) (let long = node_long child in omega arith)) made in
                 inr (
                   next,
                   record {
@@ -414,15 +413,15 @@ module _ (laws : AreAttached) (T : Types) (fs node inode top c : ℕ) (few : fs 
       first_ran ran = elim (ran_first T fs attach (wait ∷ rest_acts) s new result ran) [
         | inl same ↦ inl (subst (Stays T fs node inode top c few tree s) (sym same) (at, refl))
         | inr (entry, middle, made, rest) ↦
-            started middle (made_aside T fs node inode top c few tree known s at attach middle entry refl made
-            (next_aside laws node inode top c (kinds s fs) (readable s fs) at.aside l off q first.1 h h_is h_there x news.0 plain as_node as_data none node)
-            (next_files laws node inode top c (kinds s fs) (readable s fs) at.aside l off q first.1 h h_is h_there x news.0 plain as_node as_data none node)) rest
+            started middle (made_aside T fs node inode top c few tree s at attach middle entry refl made
+            (next_aside node inode top c (kinds s fs) (readable s fs) at.aside l off q first.1 h h_is h_there x news.0 plain as_node as_data none node)
+            (next_files node inode top c (kinds s fs) (readable s fs) at.aside l off q first.1 h h_is h_there x news.0 plain as_node as_data none node)) rest
       ]
 
       module _ (left : StoreState) (is : IsStarted left) where
         pub started_there : block_at (readable left fs) c (off ∷ q) ≡ x.block
         started_there = ap (λ m. block_at m c (off ∷ q)) is.reads
-            ∙ next_there laws node inode top c (kinds s fs) (readable s fs) at.aside l off q first.1 h h_is h_there x news.0 plain as_node as_data none node
+            ∙ next_there node inode top c (kinds s fs) (readable s fs) at.aside l off q first.1 h h_is h_there x news.0 plain as_node as_data none node
 
         pub started_keeps : (y : New) → IsNew node inode (kinds s fs) (readable s fs) top y → y.ty ≢ inode → IsOther x y →
             IsNew node inode (kinds left fs) (readable left fs) top y
@@ -438,7 +437,7 @@ module _ (laws : AreAttached) (T : Types) (fs node inode top c : ℕ) (few : fs 
             let stands = next_stands (off ∷ q) os way p next in
             ap (λ t. if t then 0 else word_at (readable left fs x.block) p) (ne_eqb x.block 0 news.0.there)
             ∙ (ap (λ bs. word_at bs p) (ap (λ m. m x.block) is.reads ∙ said)
-            ∙ bare_node (node_bytes child) (known.node_children child) p stands.0 stands.1 stands.2)
+            ∙ bare_node (node_bytes child) (node_children child) p stands.0 stands.1 stands.2)
 
         with_rest : AreNodesRan (off ∷ q) os xs x.block left new result → AreNodesRan q (off ∷ os) (x ∷ xs) h s new result
         with_rest r = record {

@@ -37,7 +37,6 @@ use Rattle.treefs_byte_plans.specs.declared.roots_plan.RootsPlan.{RootsPlan}
 use Rattle.treefs.specs.Trimming.{Blanks, DoesIfAny, Drops, HasRoom, Roots, Then, TrimDoes, Waits, most_drops, plan_of_blank}
 use Rattle.treefs_values.specs.Dropped.{AreOverPointers, IsHolderWay, IsLedTo, clear_act}
 use Rattle.treefs_values.specs.Kinds.{kinds}
-use Rattle.treefs_values.specs.KnownLayout.{IsLayout}
 use Rattle.treefs_values.specs.Ways.{IsFirst, IsWay, block_numbered}
 use Rattle.treefs_values.proofs.ForCallers.{IsAt, inode_pointer}
 use Rattle.treefs_laws.proofs.AsideBegun.{IsAsideAt, Stays, stays_same, stays_then}
@@ -58,7 +57,7 @@ first_of_root : (content : ℕ → List ℕ) (c keep o : ℕ) → IsRootPlace co
 first_of_root content c keep o (inl (h, low, high, past, is)) = (h, inr (low, high, is))
 first_of_root content c keep o (inr (i, low, high, is)) = (0, inl (i, high, is, refl))
 
-module _ (T : Types) (tree : Tree) (known : IsLayout) (c : ℕ) (few : tree.fs.number < 32) (is_tree : IsTree T tree.node_type tree.inode_type) where
+module _ (T : Types) (tree : Tree) (c : ℕ) (few : tree.fs.number < 32) (is_tree : IsTree T tree.node_type tree.inode_type) where
   abbrev fs : ℕ
   fs = tree.fs.number
 
@@ -118,27 +117,27 @@ module _ (T : Types) (tree : Tree) (known : IsLayout) (c : ℕ) (few : tree.fs.n
           volume = now.volume;
           there = at.aside.there;
           no_root = at.aside.no_root;
-          is_block = still_inode_block T tree known old new at.here c at.aside.is_block q way there places blocks behind over led act no_adds at_block drops
+          is_block = still_inode_block T tree old new at.here c at.aside.is_block q way there places blocks behind over led act no_adds at_block drops
               writes ran at.aside.there stands of at.aside.no_root;
           leaves = λ i low some.
-              let s = still_leaves T tree known old new at.here c at.aside.is_block q way there places blocks behind over led act no_adds at_block drops writes
+              let s = still_leaves T tree old new at.here c at.aside.is_block q way there places blocks behind over led act no_adds at_block drops writes
               ran at.aside.there stands of at.aside.no_root i some in
               ap (kinds new fs) s.0 ∙ (s.1 ∙ at.aside.leaves i low (λ z. some (s.0 ∙ z)));
-          unled = by (still_root T tree known old new at.here c at.aside.is_block q way there places blocks behind over led act no_adds at_block drops writes ran
+          unled = by (still_root T tree old new at.here c at.aside.is_block q way there places blocks behind over led act no_adds at_block drops writes ran
               at.aside.there stands of at.aside.no_root);
         };
       },
-      fun_ext (λ m. still_others T tree known old new at.here c at.aside.is_block q way there places blocks behind over led act no_adds at_block drops writes
+      fun_ext (λ m. still_others T tree old new at.here c at.aside.is_block q way there places blocks behind over led act no_adds at_block drops writes
           ran at.aside.there stands of at.aside.no_root m (other m)),
     )
       where
         now : IsAt T fs node inode top new
-        now = at_still T tree known old new at.here c at.aside.is_block q way there places blocks behind over led act no_adds at_block drops writes ran
+        now = at_still T tree old new at.here c at.aside.is_block q way there places blocks behind over led act no_adds at_block drops writes ran
             at.aside.there stands of
 
         by : IsRoot node inode (kinds new fs) (readable new fs) top c → IsUnled node inode (kinds new fs) (readable new fs) c
         by (inl (n, is)) =
-            absurd (other n (sym (is ∙ still_numbered T tree known old new at.here c at.aside.is_block q way there places blocks behind over led act no_adds
+            absurd (other n (sym (is ∙ still_numbered T tree old new at.here c at.aside.is_block q way there places blocks behind over led act no_adds
             at_block drops writes ran at.aside.there stands of at.aside.no_root n)))
         by (inr (no_root, unled)) = unled
 
@@ -222,16 +221,16 @@ module _ (T : Types) (tree : Tree) (known : IsLayout) (c : ℕ) (few : tree.fs.n
       elim (ran_first T fs (wait_act c (first ∷ []) other) (map (wait_act c (first ∷ [])) others) old new result ran) [
         | inl same ↦ as_it_was old new at same
         | inr (entry, middle, made, rest) ↦
-            let whole = own_whole T fs node inode top c few is_tree known old at in
+            let whole = own_whole T fs node inode top c few is_tree old at in
             let long = whole.0 in
-            let one = wait_made T fs node inode top c few is_tree known old at c first other middle entry is (omega arith) made in
+            let one = wait_made T fs node inode top c few is_tree old at c first other middle entry is (omega arith) made in
             chain old middle new one.0 (waits_ran others first middle new result one.0.0 (is ∙ sym (ap (λ m. slice_index (m c) 0) one.1)) rest)
       ]
 
   waits_stay : (keep : ℕ) (kept : Kept) → kept.inode ≡ c → Parts (Waits T fs kept)
   waits_stay keep kept of_inode old new result at (plan, planned, does) =
       let first_is : plan.first ≡ slice_index (readable old fs c) 0 = planned.first_is ∙ ap (λ x. slice_index (readable old fs x) 0) of_inode in
-      does_stays T fs node inode top c few is_tree known
+      does_stays T fs node inode top c few is_tree
       (record { starts = []; acts = λ begun. map (wait_act c (plan.first ∷ [])) plan.others.items }) old new result
       (λ i d lt. absurd (omega arith)) at
       (λ begun middle left ran begins there keeps is. waits_ran plan.others.items plan.first middle left ran there
@@ -259,7 +258,7 @@ module _ (T : Types) (tree : Tree) (known : IsLayout) (c : ℕ) (few : tree.fs.n
         elim (ran_first T fs (blank_act own_plan) [] old new (Ok tt) ran) [
           | inl same ↦ as_it_was old new at same
           | inr (entry, middle, made, rest) ↦
-              subst (Stay old) (sym rest.1) (own_blanked T fs node inode top c few is_tree known old at end low middle entry made).0
+              subst (Stay old) (sym rest.1) (own_blanked T fs node inode top c few is_tree old at end low middle entry made).0
         ]
 
     leaf_blank : (old new : StoreState) → At old → end < greatest_size → Ran T fs (blank_act (leaf_plan old) ∷ []) old new (Ok tt) → Stay old new
@@ -269,7 +268,7 @@ module _ (T : Types) (tree : Tree) (known : IsLayout) (c : ℕ) (few : tree.fs.n
           | inr (entry, middle, made, rest) ↦
               let zeros : List ℕ = replicate (512 - end % 512) 0 in
               let long : length (replicate {A = ℕ} (512 - end % 512) 0) ≡ 512 - end % 512 = length-replicate (512 - end % 512) 0 in
-              subst (Stay old) (sym rest.1) (leaf_made T fs node inode top c few is_tree known old at (end / 512) (omega arith) (end % 512) zeros (Some c) middle
+              subst (Stay old) (sym rest.1) (leaf_made T fs node inode top c few is_tree old at (end / 512) (omega arith) (end % 512) zeros (Some c) middle
               entry (omega arith) (All-replicate (λ b. b < 256) (512 - end % 512) 0 (omega arith)) made).0
         ]
 

@@ -30,14 +30,12 @@ use Rattle.treefs_byte_plans.specs.Fields.{size_acts, size_changes, times_now}
 use Rattle.treefs_byte_plans.specs.Runs.{attach_acts, ends_in, holder_acts, leaf_starts, own_act, planned_run, run_acts, run_nodes, run_plan, run_starts, run_waits, size_parts}
 use Rattle.treefs_byte_plans.specs.declared.run_plan.RunPlan.{RunPlan}
 use Rattle.treefs_values.specs.Kinds.{kinds}
-use Rattle.treefs_values.specs.KnownLayout.{IsLayout}
 use Rattle.treefs_values.specs.Ways.{IsWay}
 use Rattle.treefs_values.proofs.ForCallers.{AreBegun, AreNew, AreOf, IsFineStart, IsOther, IsPathTo, New, begun_so, blocks_in, new_kept, new_parts, of_long, of_parts, onto, path_to, steps_way}
 use Rattle.treefs_laws.proofs.AsideBegun.{IsAsideAt, KeepsTree, Stays, stays_then}
 use Rattle.treefs_laws.proofs.AsideEdits.{does_stays, made_aside, own_placed, own_whole, ran_first, size_made, sizes_adjoin, sizes_whole, wait_made, whole_own}
 use Rattle.treefs_laws.proofs.AsideRun.{AreBeside, AreNodesRan, IsFreePlace, attach_ran, beside, nodes_ran, together_is}
 use Rattle.treefs_laws.proofs.AsideTree.{IsAside}
-use Rattle.treefs_laws.proofs.Attaching.{AreAttached}
 use Rattle.treefs_laws.proofs.LeavesAttached.{way_stands}
 use Rattle.treefs_laws.proofs.NodesAttached.{IsNext}
 use Rattle.treefs_laws.proofs.PointersPatched.{attach_each, patches_behind}
@@ -52,7 +50,7 @@ leaves_data T fs node inode top few tree (suc count) place rest [] of = absurd o
 leaves_data T fs node inode top few tree (suc count) place rest (z ∷ zs) of =
     All-cons (λ (z : New). z.ty ≡ 2) z zs of.0 (leaves_data T fs node inode top few tree count 0 (drop (512 - place) rest) zs of.2)
 
-module _ (laws : AreAttached) (T : Types) (known : IsLayout) (tree : Tree) (few : tree.fs.number < 32) (is_tree : IsTree T tree.node_type tree.inode_type)
+module _ (T : Types) (tree : Tree) (few : tree.fs.number < 32) (is_tree : IsTree T tree.node_type tree.inode_type)
     (short : tree.node_type < 2 ^ 8) (memory : Memory) (s0 : StoreState) (x : Found)
     (at0 : IsAsideAt T tree.fs.number tree.node_type tree.inode_type tree.top x.block few is_tree s0)
     (fields_are : fields_of (readable s0 tree.fs.number x.block) ≡ x.fields) (at : ℕ) (bytes : List ℕ) (wide : All (λ b. b < 256) bytes)
@@ -109,8 +107,8 @@ module _ (laws : AreAttached) (T : Types) (known : IsLayout) (tree : Tree) (few 
   starts_fine =
       let v = at0.here.volume in
       All-append Fine (node_starts node 2 (run_nodes plan)) (leaf_starts count (at % 512) bytes)
-      (nodes_fine T fs node inode top few is_tree known (v.types.1, v.types.2) v.some_types.0 short (run_nodes plan))
-      (leaves_fine T fs node inode top few is_tree known (v.types.1, v.types.2) v.some_types.0 short count (at % 512) bytes (omega arith) wide)
+      (nodes_fine T fs node inode top few is_tree (v.types.1, v.types.2) v.some_types.0 short (run_nodes plan))
+      (leaves_fine T fs node inode top few is_tree (v.types.1, v.types.2) v.some_types.0 short count (at % 512) bytes (omega arith) wide)
 
   module _ (s : StoreState) (begun : List ℕ) (a : AreBegun T fs node inode top few is_tree (run_starts bytes plan) [] begun s0 s)
       (at_s : IsAsideAt T fs node inode top x.block few is_tree s) (keeps : KeepsTree T fs node inode top x.block few is_tree s0 s) where
@@ -200,7 +198,7 @@ module _ (laws : AreAttached) (T : Types) (known : IsLayout) (tree : Tree) (few 
 
       -- once the nodes are there
       module _ (new : StoreState) (result : Result (Unit {0}) Refusal)
-          (r : AreNodesRan laws T fs node inode top x.block few is_tree known l0 More more_stands last_acts q nodes ys owner s new result) where
+          (r : AreNodesRan T fs node inode top x.block few is_tree l0 More more_stands last_acts q nodes ys owner s new result) where
         abbrev m1 : ℕ → List ℕ
         m1 = readable r.left fs
 
@@ -211,7 +209,7 @@ module _ (laws : AreAttached) (T : Types) (known : IsLayout) (tree : Tree) (few 
         news_left = new_kept node inode top (kinds s fs) (kinds r.left fs) c0 m1 (λ z. (z.ty ≢ inode) × All (λ y. IsOther y z) ys) zs
             (λ i d lt. ((λ same. at_s.here.volume.types.2 (sym (zs_data i d lt) ∙ same)), news.2 i d lt)) (λ z both is. r.keeps z is both.0 both.1) news.1
 
-        free_left : (j : ℕ) → j < length zs → IsFreePlace laws node inode top c (kinds r.left fs) m1 above holder l0 j
+        free_left : (j : ℕ) → j < length zs → IsFreePlace node inode top c (kinds r.left fs) m1 above holder l0 j
         free_left j lt = let z = zs_long in
             let few_j : j < count = omega arith in record { way = way_at j few_j; none = r.zeros (l0 + 4 * j) (j, few_j, refl) }
 
@@ -229,8 +227,8 @@ module _ (laws : AreAttached) (T : Types) (known : IsLayout) (tree : Tree) (few 
         no_more : AreNew node inode (kinds r.left fs) m1 top (zs ++ [])
         no_more = subst (AreNew node inode (kinds r.left fs) m1 top) (sym (append-nil zs)) news_left
 
-        b : AreBeside laws node inode top c (kinds r.left fs) above holder (l0 + 4 * length zs) [] m1 (attach_each holder l0 (blocks_in zs) m1)
-        b = beside laws T fs node inode top c few is_tree known above holder r.there [] r.left at_left r.last zs [] l0 no_more zs_data
+        b : AreBeside node inode top c (kinds r.left fs) above holder (l0 + 4 * length zs) [] m1 (attach_each holder l0 (blocks_in zs) m1)
+        b = beside T fs node inode top c few is_tree above holder r.there [] r.left at_left r.last zs [] l0 no_more zs_data
             (All-nil (λ (z : New). z.ty ≡ 2)) free_left
 
         abbrev m2 : ℕ → List ℕ
@@ -251,14 +249,14 @@ module _ (laws : AreAttached) (T : Types) (known : IsLayout) (tree : Tree) (few 
         parts_aside (Some k) =
             let whole = whole_own node inode top c (kinds r.left fs) m2 b.aside in
             let placed = own_placed node inode top c (kinds r.left fs) m2 b.aside (changes_patch (size_changes (Some k) (times_now memory)) ∷ []) None
-            (sizes_adjoin known (m2 c) whole (Some k) (times_now memory)) (sizes_whole (m2 c) (Some k) (times_now memory) whole) in
+            (sizes_adjoin (m2 c) whole (Some k) (times_now memory)) (sizes_whole (m2 c) (Some k) (times_now memory) whole) in
             (placed.0, placed.1 ∙ b.files)
 
         own_writes : leaf < 16 → written (own_act plan holder l0 (blocks_in zs)) m1 ≡ with_parts plan.size
         own_writes lt =
             patches_behind (own_act plan holder l0 (blocks_in zs)) l0 (blocks_in zs) (size_parts plan.size plan.times) m1 refl
             ∙ (λ j. written (patch_act (own_holder lt j) (size_parts plan.size (times_now memory)) None)
-            (together_is laws T fs node inode top c few is_tree known above holder r.there [] r.left at_left r.last zs [] l0 no_more zs_data
+            (together_is T fs node inode top c few is_tree above holder r.there [] r.left at_left r.last zs [] l0 no_more zs_data
             (All-nil (λ (z : New). z.ty ≡ 2)) free_left j))
 
         own_ran : leaf < 16 → Ran T fs (own_act plan holder l0 (blocks_in zs) ∷ []) r.left new result → Stay s new
@@ -266,7 +264,7 @@ module _ (laws : AreAttached) (T : Types) (known : IsLayout) (tree : Tree) (few 
           | inl same ↦ subst (Stay s) (sym same) r.stays
           | inr (entry, middle, made, rest) ↦
               let placed = parts_aside plan.size in
-              subst (Stay s) (sym rest.1) (then_stay middle (made_aside T fs node inode top c few is_tree known r.left at_left
+              subst (Stay s) (sym rest.1) (then_stay middle (made_aside T fs node inode top c few is_tree r.left at_left
               (own_act plan holder l0 (blocks_in zs)) middle entry refl made (subst (IsAside node inode top c (kinds r.left fs)) (sym (own_writes lt)) placed.0)
               (ap (λ m. files_of m top) (own_writes lt) ∙ placed.1)).0)
         ]
@@ -279,9 +277,9 @@ module _ (laws : AreAttached) (T : Types) (known : IsLayout) (tree : Tree) (few 
         waits_ran true end at_end same ran = elim (ran_first T fs (wait_act c (x.fields.leaf_type ∷ []) holder) [] end new result ran) [
           | inl is ↦ subst (Stay end) (sym is) (at_end, refl)
           | inr (entry, middle, made, rest) ↦
-              let whole = own_whole T fs node inode top c few is_tree known end at_end in
+              let whole = own_whole T fs node inode top c few is_tree end at_end in
               let long = whole.0 in
-              subst (Stay end) (sym rest.1) (wait_made T fs node inode top c few is_tree known end at_end c x.fields.leaf_type holder middle entry
+              subst (Stay end) (sym rest.1) (wait_made T fs node inode top c few is_tree end at_end c x.fields.leaf_type holder middle entry
               (ap (λ (g : Fields). g.leaf_type) (sym same)) (omega arith) made).0
         ]
 
@@ -295,14 +293,14 @@ module _ (laws : AreAttached) (T : Types) (known : IsLayout) (tree : Tree) (few 
             elim (ran_first T fs (changes_act c (size_changes (Some k) plan.times ∷ []) (Some holder)) (run_waits plan holder) end new result ran) [
               | inl stay ↦ subst (Stay end) (sym stay) (at_end, refl)
               | inr (entry, middle, made, rest) ↦
-                  let one = size_made T fs node inode top c few is_tree known end at_end (Some k) plan.times (Some holder) middle entry made in
+                  let one = size_made T fs node inode top c few is_tree end at_end (Some k) plan.times (Some holder) middle entry made in
                   let none = subst (λ t. Ran T fs (if t then wait_act c (x.fields.leaf_type ∷ []) holder ∷ [] else []) middle new result) (no_waits k is) rest in
                   subst (Stay end) (sym none.1) one.0
             ]
 
         node_ran : Ran T fs (attach_acts (div_ceil count 16) holder l0 (blocks_in zs) ++ (size_acts c holder plan.size plan.times ++ run_waits plan holder))
             r.left new result → Stay s new
-        node_ran ran = elim (attach_ran laws T fs node inode top c few is_tree known above holder r.there
+        node_ran ran = elim (attach_ran T fs node inode top c few is_tree above holder r.there
             (size_acts c holder plan.size plan.times ++ run_waits plan holder) (div_ceil count 16) zs l0 r.left new result at_left r.last news_left zs_data free_left
             ran) [
               | inl stay ↦ then_stay new stay
@@ -324,7 +322,7 @@ module _ (laws : AreAttached) (T : Types) (known : IsLayout) (tree : Tree) (few 
       all_ran new result ran =
           let ran' = subst (λ acts. Ran T fs acts s new result) (acts_are
           ∙ (λ j. node_acts node 2 owner (nodes_are j) (blocks_in ys) ++ holder_acts plan holder (offset_is j) (blocks_in zs))) ran in
-          elim (nodes_ran laws T fs node inode top c few is_tree known l0 More more_stands last_acts nodes ys q owner s new result at_s (sym p.holder) p.there
+          elim (nodes_ran T fs node inode top c few is_tree l0 More more_stands last_acts nodes ys q owner s new result at_s (sym p.holder) p.there
           first_way (subst (λ os. AreOf T fs node inode top few is_tree (node_starts node 2 os) ys) nodes_are parts.3) news.0 (free_first nodes refl) ran') [
             | inl stay ↦ stay
             | inr r ↦ last_ran new result r
@@ -335,7 +333,7 @@ module _ (laws : AreAttached) (T : Types) (known : IsLayout) (tree : Tree) (few 
 
   pub run_aside : (new : StoreState) (result : Result (Unit {0}) Fault) → Does T fs (run_plan bytes plan) s0 new result → Stay s0 new
   run_aside new result does =
-      does_stays T fs node inode top c few is_tree known (run_plan bytes plan) s0 new result starts_fine at0
+      does_stays T fs node inode top c few is_tree (run_plan bytes plan) s0 new result starts_fine at0
       (λ begun middle left ran begins there keeps is.
       run_ran middle begun (begun_so T fs node inode top few is_tree (run_starts bytes plan) [] begun s0 middle starts_fine at0.here begins) there keeps left ran is)
       does

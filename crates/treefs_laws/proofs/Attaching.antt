@@ -1,5 +1,5 @@
 -- A new block is attached to a file: a node without pointers, or a leaf of zeros. The bytes of the file are as before, also those past its size.
-use Rattle.std.proofs.Common.{◌≡◌, ◌≢◌, ◌⊎◌, ℕ, zero, suc, ◌/◌, ◌%◌, ◌<◌, ◌^◌, ◌-◌, Bool, true, false, ◌||◌, List, [], ◌∷◌, Option, refl, sym, ◌∙◌, ap, inl, inr, subst, arith, get_or, if◌then◌else◌}
+use Rattle.std.proofs.Common.{◌≡◌, ◌≢◌, ◌⊎◌, ℕ, zero, suc, ◌/◌, ◌%◌, ◌<◌, ◌-◌, Bool, true, false, ◌||◌, List, [], ◌∷◌, Option, refl, sym, ◌∙◌, ap, inl, inr, subst, arith, get_or, if◌then◌else◌}
 use Rattle.std.specs.Prelude.{IsTrue, nat_lt, slice_index, ◌==◌}
 use Rattle.std.proofs.lemmas.Bool.{cases_eq, ne_eqb}
 use Rattle.std.proofs.lemmas.List.{get_or-drop}
@@ -16,22 +16,9 @@ use Rattle.treefs_edits.specs.Written.{written}
 use Rattle.treefs_values.specs.Attached.{IsEmptyBlock, IsPointerSet}
 use Rattle.treefs_values.specs.Volumes.{IsVolume, IsWholeBlock}
 use Rattle.treefs_values.specs.Ways.{ArePointersApart, IsWay, block_numbered}
-use Rattle.treefs_values.proofs.ForCallers.{IsNew, IsOther, New, inode_pointer, node_pointer, steps_way}
+use Rattle.treefs_values.proofs.ForCallers.{IsNew, IsOther, New, empty_attached, inode_pointer, node_pointer, pointer_attached, steps_way}
 use Rattle.treefs_laws.proofs.Fading.{byte_by}
 use Rattle.treefs_laws.proofs.TrimBlanks.{zeros_are}
-
--- what laws of attached blocks say
-pub record AreAttached : Type 0 where
-  pub set : (node inode : ℕ) (type : ℕ → ℕ) (content : ℕ → List ℕ) (holder offset ty block : ℕ) (behind : Option ℕ) → node ≢ inode → holder ≢ 0 →
-      IsWholeBlock (content holder) → IsTrue (has_pointer node inode (type holder) offset) → pointed content holder offset ≡ 0 → block < 2 ^ 32 →
-      IsPointerSet node inode type content (written (attach_act holder offset ty (block ∷ []) behind) content) holder offset block
-      × IsWholeBlock (written (attach_act holder offset ty (block ∷ []) behind) content holder)
-  pub empty : (node inode top : ℕ) (type : ℕ → ℕ) (content new : ℕ → List ℕ) → IsVolume node inode type content top → (n l offset block : ℕ) (above : List ℕ) →
-      IsWay (offset ∷ above) l → block_at content (block_numbered content top n) above ≢ 0 →
-      IsPointerSet node inode type content new (block_at content (block_numbered content top n) above) offset block →
-      IsEmptyBlock node inode type content n l block → block ≢ block_at content (block_numbered content top n) above →
-      ArePointersApart node inode type new top → IsWholeBlock (new (block_at content (block_numbered content top n) above)) →
-      IsVolume node inode type new top × (files_of new top ≡ files_of content top)
 
 -- the block of a pointer on a way
 pub way_pointer : (node inode top : ℕ) (type : ℕ → ℕ) (content : ℕ → List ℕ) → IsVolume node inode type content top → (n l o : ℕ) (q : List ℕ) → IsWay
@@ -59,7 +46,7 @@ not_on_way node inode top type content v n l o (p ∷ q) way there y new ne same
   | inr some ↦ new.unled (block_at content (block_numbered content top n) q) p (way_pointer node inode top type content v n (suc l) p q way.3 some) (sym same)
 ]
 
-module _ (laws : AreAttached) (node inode top : ℕ) (type : ℕ → ℕ) (c : ℕ → List ℕ) (v : IsVolume node inode type c top) (n : ℕ) (number : n ≢ 0)
+module _ (node inode top : ℕ) (type : ℕ → ℕ) (c : ℕ → List ℕ) (v : IsVolume node inode type c top) (n : ℕ) (number : n ≢ 0)
     (l o : ℕ) (above : List ℕ) (way : IsWay (o ∷ above) l) (holder_there : block_at c (block_numbered c top n) above ≢ 0)
     (y : New) (new : IsNew node inode type c top y) (as_node : (k : ℕ) → l ≡ suc k → y.ty ≡ node) (as_data : l ≡ 0 → y.ty ≡ 2)
     (none : pointed c (block_at c (block_numbered c top n) above) o ≡ 0) (ty : ℕ) (behind : Option ℕ) where
@@ -82,7 +69,7 @@ module _ (laws : AreAttached) (node inode top : ℕ) (type : ℕ → ℕ) (c : �
   whole = v.blocks holder (λ z. elim holder_type [ inl is ↦ v.some_types.1 (sym is ∙ z) | inr is ↦ v.some_types.0 (sym is ∙ z) ])
 
   both : IsPointerSet node inode type c attached holder o y.block × IsWholeBlock (attached holder)
-  both = laws.set node inode type c holder o ty y.block behind v.types.0 holder_there whole has none new.within
+  both = pointer_attached node inode type c holder o ty y.block behind v.types.0 holder_there whole has none new.within
 
   pub set : IsPointerSet node inode type c attached holder o y.block
   set = both.0
@@ -228,7 +215,7 @@ module _ (laws : AreAttached) (node inode top : ℕ) (type : ℕ → ℕ) (c : �
     }
 
     made : IsVolume node inode type attached top × (files_of attached top ≡ files_of c top)
-    made = laws.empty node inode top type c attached v n l o y.block above way holder_there set empty_block other apart both.1
+    made = empty_attached node inode top type c attached v n l o y.block above way holder_there set empty_block other apart both.1
 
     pub attached_volume : IsVolume node inode type attached top
     attached_volume = made.0

@@ -13,6 +13,7 @@ use Rattle.treefs_format.specs.declared.fields.Change.{Change}
 use Rattle.treefs_format.specs.declared.fields.Change.TheVariants.{Ctime, Gid, Mode, Mtime, Uid}
 use Rattle.treefs_format.specs.declared.fields.Fields.{Fields}
 use Rattle.treefs_format.specs.declared.kind.Kind.{Kind}
+use Rattle.treefs_format.proofs.ForCallers.{mode_kind, mode_permissions, mode_short}
 use Rattle.treefs_model.specs.Acts.{Act, Ran, changes_act}
 use Rattle.treefs_model.specs.Changes.{marked, moved_to}
 use Rattle.treefs_model.specs.Files.{Content, Files, Inode, and_then, changed_at, found}
@@ -37,7 +38,6 @@ use Rattle.treefs.specs.Changed.{changed_volume}
 use Rattle.treefs.specs.Setting.{AttributesDoes}
 use Rattle.treefs.specs.Unlinking.{as_plan}
 use Rattle.treefs.specs.declared.volume.Volume.{Volume}
-use Rattle.treefs_values.specs.KnownLayout.{IsLayout}
 use Rattle.treefs_values.specs.Kinds.{kinds}
 use Rattle.treefs_values.specs.Values.{AreChanges, KeepsBlocks, found_value}
 use Rattle.treefs_values.specs.Volumes.{IsVolume}
@@ -51,16 +51,10 @@ use Rattle.treefs_laws.proofs.Planned.{ran_acts, same_done, then_ok}
 use Rattle.treefs_laws.proofs.Seeing.{found_seen, seen_changed}
 use Rattle.treefs_laws.proofs.Touching.{all_written_out, once_written, others_written, times_fit, written_now}
 
--- What is known of modes
-pub record AreModes : Type 0 where
-  pub kind : (k : Kind) (permissions : ℕ) → permissions < 4096 → kind_of (mode_of k permissions) ≡ Some k
-  pub permissions : (k : Kind) (permissions : ℕ) → permissions < 4096 → mode_of k permissions % 4096 ≡ permissions
-  pub short : (k : Kind) (permissions : ℕ) → permissions < 4096 → mode_of k permissions < 2 ^ 16
-
 low : (n : ℕ) → n % 4096 < 4096
 low n = omega arith
 
-module _ (modes : AreModes) (was : Fields) (k : Kind) (is_kind : kind_of was.mode ≡ Some k) (times : Times) where
+module _ (was : Fields) (k : Kind) (is_kind : kind_of was.mode ≡ Some k) (times : Times) where
   abbrev parts : Option ℕ → Option Owner → List (List Change)
   parts permissions owner = mode_parts (option_map (λ p. mode_of k (p % 4096)) permissions) ++ (owner_parts owner ++ time_parts (Some times))
 
@@ -76,8 +70,8 @@ module _ (modes : AreModes) (was : Fields) (k : Kind) (is_kind : kind_of was.mod
   same_kind : (permissions : Option ℕ) (owner : Option Owner) → kind_of (now permissions owner).mode ≡ kind_of was.mode
   same_kind None None = refl
   same_kind None (Some owner) = refl
-  same_kind (Some p) None = modes.kind k (p % 4096) (low p) ∙ sym is_kind
-  same_kind (Some p) (Some owner) = modes.kind k (p % 4096) (low p) ∙ sym is_kind
+  same_kind (Some p) None = mode_kind k (p % 4096) (low p) ∙ sym is_kind
+  same_kind (Some p) (Some owner) = mode_kind k (p % 4096) (low p) ∙ sym is_kind
 
   abbrev change : Option ℕ → Option Owner → Inode → Inode
   change permissions owner inode = with_times times (with_some_owner owner (with_some_permissions permissions inode))
@@ -87,10 +81,10 @@ module _ (modes : AreModes) (was : Fields) (k : Kind) (is_kind : kind_of was.mod
   makes None None content stands = ap (inode_with (now None None)) stands
   makes None (Some owner) content stands = ap (inode_with (now None (Some owner))) stands
   makes (Some p) None content stands =
-      ap (inode_with (now (Some p) None)) stands ∙ ap (λ q. record (change None None (inode_with was content)) { permissions = q }) (modes.permissions k (p % 4096) (low p))
+      ap (inode_with (now (Some p) None)) stands ∙ ap (λ q. record (change None None (inode_with was content)) { permissions = q }) (mode_permissions k (p % 4096) (low p))
   makes (Some p) (Some owner) content stands =
       ap (inode_with (now (Some p) (Some owner))) stands
-      ∙ ap (λ q. record (change None (Some owner) (inode_with was content)) { permissions = q }) (modes.permissions k (p % 4096) (low p))
+      ∙ ap (λ q. record (change None (Some owner) (inode_with was content)) { permissions = q }) (mode_permissions k (p % 4096) (low p))
 
   module _ (fit : AreTimes times) where
     timed : All AreChanges (time_parts (Some times))
@@ -110,7 +104,7 @@ module _ (modes : AreModes) (was : Fields) (k : Kind) (is_kind : kind_of was.mod
     moded None = All-nil AreChanges
     moded (Some p) =
         All-cons AreChanges (Mode (mode_of k (p % 4096)) ∷ []) []
-        (refl, All-cons IsInRange (Mode (mode_of k (p % 4096))) [] (modes.short k (p % 4096) (low p)) (All-nil IsInRange)) (All-nil AreChanges)
+        (refl, All-cons IsInRange (Mode (mode_of k (p % 4096))) [] (mode_short k (p % 4096) (low p)) (All-nil IsInRange)) (All-nil AreChanges)
 
     fine : (permissions : Option ℕ) (owner : Option Owner) → ((o : Owner) → owner ≡ Some o → (o.uid < 2 ^ 32) × (o.gid < 2 ^ 32)) →
         All AreChanges (parts permissions owner)
@@ -120,7 +114,7 @@ module _ (modes : AreModes) (was : Fields) (k : Kind) (is_kind : kind_of was.mod
 
 -- The volume
 
-module _ (T : Types) (state state' : StoreState) (volume volume' : Volume) (n : ℕ) (a : Attributes) (known : IsLayout) (modes : AreModes) (wide : AreInWidth a)
+module _ (T : Types) (state state' : StoreState) (volume volume' : Volume) (n : ℕ) (a : Attributes) (wide : AreInWidth a)
     (kept : IsKept T state volume) where
   abbrev fs : ℕ
   fs = volume.tree.fs.number
@@ -161,10 +155,10 @@ module _ (T : Types) (state state' : StoreState) (volume volume' : Volume) (n : 
         by (Some m) short = (short m refl, kept.session.clock)
 
     abbrev changes : List (List Change)
-    changes = parts modes (fields_of (content c)) x.kind is.kind times a.permissions a.owner
+    changes = parts (fields_of (content c)) x.kind is.kind times a.permissions a.owner
 
     abbrev change_of : Inode → Inode
-    change_of = change modes (fields_of (content c)) x.kind is.kind times a.permissions a.owner
+    change_of = change (fields_of (content c)) x.kind is.kind times a.permissions a.owner
 
     abbrev act : Act
     act = changes_act c changes None
@@ -172,12 +166,12 @@ module _ (T : Types) (state state' : StoreState) (volume volume' : Volume) (n : 
     made : IsVolume volume.tree.node_type volume.tree.inode_type (kinds state fs) (written act content) top
         × (files_of (written act content) top ≡ changed_at (files_of content top) n change_of)
     made =
-        fields_changed volume.tree.node_type volume.tree.inode_type top (kinds state fs) content kept.bytes known n is.number is.there changes
-        (fine modes (fields_of (content c)) x.kind is.kind times fit a.permissions a.owner wide.owner) None
-        (same_size modes (fields_of (content c)) x.kind is.kind times a.permissions a.owner)
-        (same_kind modes (fields_of (content c)) x.kind is.kind times a.permissions a.owner)
-        (change modes (fields_of (content c)) x.kind is.kind times a.permissions a.owner)
-        (makes modes (fields_of (content c)) x.kind is.kind times a.permissions a.owner)
+        fields_changed volume.tree.node_type volume.tree.inode_type top (kinds state fs) content kept.bytes n is.number is.there changes
+        (fine (fields_of (content c)) x.kind is.kind times fit a.permissions a.owner wide.owner) None
+        (same_size (fields_of (content c)) x.kind is.kind times a.permissions a.owner)
+        (same_kind (fields_of (content c)) x.kind is.kind times a.permissions a.owner)
+        (change (fields_of (content c)) x.kind is.kind times a.permissions a.owner)
+        (makes (fields_of (content c)) x.kind is.kind times a.permissions a.owner)
 
     abbrev value : Inode
     value = found_value content top x

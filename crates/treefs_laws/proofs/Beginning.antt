@@ -9,6 +9,7 @@ use Rattle.treefs_format.specs.Inodes.{inode_bytes}
 use Rattle.treefs_format.specs.declared.fields.Fields.{Fields}
 use Rattle.treefs_format.specs.declared.kind.Kind.{Kind}
 use Rattle.treefs_format.specs.declared.kind.Kind.TheVariants as kind
+use Rattle.treefs_format.proofs.ForCallers.{mode_kind, mode_permissions, mode_short}
 use Rattle.treefs_model.specs.Reading.{inode_with}
 use Rattle.treefs_lookup.specs.Readable.{readable}
 use Rattle.treefs_model.specs.declared.fault.Fault.{Fault}
@@ -22,17 +23,15 @@ use Rattle.treefs.specs.declared.attributes.Attributes.{Attributes}
 use Rattle.treefs.specs.declared.volume.Volume.{Volume}
 use Rattle.treefs_values.specs.Attached.{new_content}
 use Rattle.treefs_values.specs.Kinds.{kinds}
-use Rattle.treefs_values.specs.KnownLayout.{IsLayout}
 use Rattle.treefs_values.proofs.ForCallers.{AreBegun, AreNew, AreOf, IsAt, IsFineStart, New, begun_so, blocks_in}
 use Rattle.treefs_laws.specs.Kept.{IsKept, files_in}
 use Rattle.treefs_laws.specs.Begun.{IsBegun}
 use Rattle.treefs_laws.specs.Making.{FitsAttributes, new_inode}
 use Rattle.treefs_laws.specs.Open.{IsOpen}
 use Rattle.treefs_laws.specs.Seen.{seen_files}
-use Rattle.treefs_laws.proofs.Attributed.{AreModes}
 use Rattle.treefs_laws.proofs.Begun.{fine_inode}
 
-module _ (T : Types) (state state' : StoreState) (volume : Volume) (is_open : IsOpen T state volume) (known : IsLayout) (modes : AreModes) (k : Kind) (attributes : Attributes)
+module _ (T : Types) (state state' : StoreState) (volume : Volume) (is_open : IsOpen T state volume) (k : Kind) (attributes : Attributes)
     (fit : FitsAttributes attributes) (head : List ℕ) (wide : All (λ b. b < 256) head) (short : length head ≤ 384) where
   abbrev fs : ℕ
   fs = volume.tree.fs.number
@@ -59,7 +58,7 @@ module _ (T : Types) (state state' : StoreState) (volume : Volume) (is_open : Is
   in_range = record {
     leaf_type = omega arith;
     node_type = is_open.short.0;
-    mode = modes.short k attributes.permissions fit.permissions;
+    mode = mode_short k attributes.permissions fit.permissions;
     links = omega arith;
     uid = fit.uid;
     gid = fit.gid;
@@ -74,7 +73,7 @@ module _ (T : Types) (state state' : StoreState) (volume : Volume) (is_open : Is
   Fine = IsFineStart T fs node inode top is_open.few is_open.tree
 
   fine : All Fine (start ∷ [])
-  fine = All-cons Fine start [] (fine_inode T fs node inode top is_open.few is_open.tree known kept.bytes.types.0 kept.bytes.some_types is_open.short fields head in_range wide short) (All-nil Fine)
+  fine = All-cons Fine start [] (fine_inode T fs node inode top is_open.few is_open.tree kept.bytes.types.0 kept.bytes.some_types is_open.short fields head in_range wide short) (All-nil Fine)
 
   here : IsAt T fs node inode top state
   here = record { store = kept.store; root = is_open.root; volume = kept.bytes }
@@ -84,7 +83,7 @@ module _ (T : Types) (state state' : StoreState) (volume : Volume) (is_open : Is
       × (k ≢ kind.Directory → IsBegun state' volume block (new_inode volume.memory.clock attributes (new_content k 0 head)))
 
   value_is : inode_with fields (new_content k 0 head) ≡ new_inode volume.memory.clock attributes (new_content k 0 head)
-  value_is = ap (λ p. record (new_inode volume.memory.clock attributes (new_content k 0 head)) { permissions = p }) (modes.permissions k attributes.permissions fit.permissions)
+  value_is = ap (λ p. record (new_inode volume.memory.clock attributes (new_content k 0 head)) { permissions = p }) (mode_permissions k attributes.permissions fit.permissions)
 
   is_begun : (block : ℕ) (made : List New) → block ∷ [] ≡ blocks_in made → AreOf T fs node inode top is_open.few is_open.tree (start ∷ []) made →
       AreNew node inode (kinds state' fs) (readable state' fs) top made → k ≢ kind.Directory →
@@ -102,7 +101,7 @@ module _ (T : Types) (state state' : StoreState) (volume : Volume) (is_open : Is
         in_range = in_range;
         short = short;
         size = refl;
-        kind_is = modes.kind k attributes.permissions fit.permissions;
+        kind_is = mode_kind k attributes.permissions fit.permissions;
         no_directory = no_directory;
         value = sym value_is;
         typed = new.typed ∙ of.0;

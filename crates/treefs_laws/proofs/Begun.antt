@@ -8,35 +8,35 @@ use Rattle.treefs_format.specs.Inodes.{inode_bytes}
 use Rattle.treefs_format.specs.Nodes.{node_bytes}
 use Rattle.treefs_format.specs.Templates.{IsTree}
 use Rattle.treefs_format.specs.declared.fields.Fields.{Fields}
+use Rattle.treefs_format.proofs.ForCallers.{inode_long, inode_pointers, node_children, node_long}
 use Rattle.treefs_edits.specs.Missing.{child_before, first_byte, node_starts, path_starts, type_before}
 use Rattle.treefs_edits.specs.declared.start.Start.{Start}
 use Rattle.treefs_name_plans.specs.Additions.{addition_starts, bucket_path}
 use Rattle.treefs_name_plans.specs.declared.addition.Addition.{Addition}
 use Rattle.treefs_name_plans.specs.declared.addition.Addition.TheVariants.{Behind, Rewritten, Made}
-use Rattle.treefs_values.specs.KnownLayout.{IsLayout}
 use Rattle.treefs_values.proofs.ForCallers.{IsFineStart, bare_inode, bare_node, inode_offset, inode_small, low_offset, node_small}
 use Rattle.treefs_laws.proofs.NewPlanned.{IsAddition}
 
-module _ (T : Types) (fs node inode top : ℕ) (few : fs < 32) (tree : IsTree T node inode) (known : IsLayout) (other : node ≢ inode)
+module _ (T : Types) (fs node inode top : ℕ) (few : fs < 32) (tree : IsTree T node inode) (other : node ≢ inode)
     (some : (node ≢ 0) × (inode ≢ 0)) (small : (node < 2 ^ 8) × (inode < 2 ^ 8)) where
   abbrev Fine : Start → Type 0
   Fine = IsFineStart T fs node inode top few tree
 
   fine_node : (ty t : ℕ) → ty ≢ 0 → t < 256 → Fine (record { ty = ty; bytes = node_bytes t })
   fine_node ty t there low = record {
-    whole = (known.node_long t, node_small t low);
+    whole = (node_long t, node_small t low);
     some_type = there;
-    bare = λ o has. let stands = low_offset node inode ty o has in bare_node (node_bytes t) (known.node_children t) o stands.0 stands.1 stands.2;
+    bare = λ o has. let stands = low_offset node inode ty o has in bare_node (node_bytes t) (node_children t) o stands.0 stands.1 stands.2;
   }
 
   pub fine_inode : (fields : Fields) (head : List ℕ) → AreInRange fields → All (λ b. b < 256) head → length head ≤ 384 → Fine (record { ty = inode; bytes = inode_bytes fields head })
   fine_inode fields head range bytes short = record {
-    whole = (known.inode_long fields head short, inode_small fields head range bytes);
+    whole = (inode_long fields head short, inode_small fields head range bytes);
     some_type = some.1;
     bare = λ o has.
         let low = low_offset node inode inode o has in
         let at = inode_offset node inode inode o other refl has in
-        bare_inode (inode_bytes fields head) (known.inode_pointers fields head) o at.0 at.1 low.2;
+        bare_inode (inode_bytes fields head) (inode_pointers fields head) o at.0 at.1 low.2;
   }
 
   pub fine_nodes : (os : List ℕ) → All Fine (node_starts node inode os)

@@ -31,7 +31,6 @@ use Rattle.treefs.specs.Trimming.{TrimDoes, TrimsFirst}
 use Rattle.treefs.specs.declared.volume.Volume.{Volume}
 use Rattle.treefs_puts.specs.Begun.{begun_file, written_begun}
 use Rattle.treefs_puts.specs.Writing.{StepWrites, WriteBegunDoes, Writes, begun_planned}
-use Rattle.treefs_values.specs.KnownLayout.{IsLayout}
 use Rattle.treefs_laws.specs.Kept.{files_in}
 use Rattle.treefs_laws.specs.Open.{IsOpen}
 use Rattle.treefs_laws.specs.Unnamed.{IsUnnamed}
@@ -40,7 +39,6 @@ use Rattle.treefs_laws.proofs.AsideEdits.{content_made, does_stays, leaf_made, r
 use Rattle.treefs_laws.proofs.AsideTrims.{trim_aside}
 use Rattle.treefs_laws.proofs.AsideVolume.{aside_unnamed, unnamed_aside}
 use Rattle.treefs_laws.proofs.AsideWritten.{run_aside}
-use Rattle.treefs_laws.proofs.Attaching.{AreAttached}
 use Rattle.treefs_laws.proofs.ForgottenBlocks.{stays_open}
 use Rattle.treefs_laws.proofs.PiecesWritten.{piece_is}
 use Rattle.treefs_laws.proofs.Planned.{same_done, then_ok}
@@ -112,7 +110,7 @@ any_does : (T : Types) (fs : ℕ) (plan : Plan) (taken : ℕ) (old new : StoreSt
 any_does T fs plan taken old new (Ok count) does = (Ok tt, does.1)
 any_does T fs plan taken old new (Err fault) does = (Err fault, does)
 
-module _ (laws : AreAttached) (T : Types) (known : IsLayout) (old : StoreState) (volume : Volume) (is_open : IsOpen T old volume) (c : ℕ)
+module _ (T : Types) (old : StoreState) (volume : Volume) (is_open : IsOpen T old volume) (c : ℕ)
     (unnamed : IsUnnamed old volume c) (at : ℕ) (bytes : List ℕ) (wide : All (λ b. b < 256) bytes) where
   abbrev fs : ℕ
   fs = volume.tree.fs.number
@@ -152,7 +150,7 @@ module _ (laws : AreAttached) (T : Types) (known : IsLayout) (old : StoreState) 
   trims None asked sought new result does = subst (Stay c old) (sym does.1) (here, refl)
   trims (Some k) asked sought new result does =
       let is = kept_is (readable old fs) c at asked k sought in
-      trim_aside T volume.tree known c is_open.few is_open.tree is.0 volume.memory old new result here
+      trim_aside T volume.tree c is_open.few is_open.tree is.0 volume.memory old new result here
       (subst (λ k. TrimDoes T fs volume.memory k old new result) is.1 does)
 
   -- A piece
@@ -167,7 +165,7 @@ module _ (laws : AreAttached) (T : Types) (known : IsLayout) (old : StoreState) 
         (taken : ℕ) → Writes T fs (record { starts = []; acts = λ begun. acts }) taken middle new result → Stay x.block middle new
     acts_stay acts walk taken writes =
         let d = any_does T fs (record { starts = []; acts = λ begun. acts }) taken middle new result writes in
-        does_stays T fs node inode top x.block is_open.few is_open.tree known (record { starts = []; acts = λ begun. acts }) middle new d.0
+        does_stays T fs node inode top x.block is_open.few is_open.tree (record { starts = []; acts = λ begun. acts }) middle new d.0
         (λ i d lt. absurd (omega arith)) at_x
         (λ begun s left ran begins now keeps does. subst (λ s. Stay x.block s left) (sym begins.1)
         (walk left ran (subst (λ s. Ran T fs acts s left ran) begins.1 does))) d.1
@@ -195,7 +193,7 @@ module _ (laws : AreAttached) (T : Types) (known : IsLayout) (old : StoreState) 
           let p = piece_is at bytes some is.low in
           let fits = p.fits in
           let left_is : part_left at ≡ 384 - at = ap (λ t. if t then 384 - at else 512 - at % 512) (lt-ltb at 384 lt) in
-          subst (Stay x.block middle) (sym rest.1) (content_made T fs node inode top x.block is_open.few is_open.tree known middle at_x at piece size times next
+          subst (Stay x.block middle) (sym rest.1) (content_made T fs node inode top x.block is_open.few is_open.tree middle at_x at piece size times next
           entry (omega arith) piece_wide made).0
     ]
 
@@ -212,10 +210,10 @@ module _ (laws : AreAttached) (T : Types) (known : IsLayout) (old : StoreState) 
               let fits = p.fits in
               let low = is.low in
               let left_is : part_left at ≡ 512 - at % 512 = ap (λ t. if t then 384 - at else 512 - at % 512) (le-ltb at 384 high) in
-              let one = (leaf_made T fs node inode top x.block is_open.few is_open.tree known middle at_x (at / 512) (omega arith) (at % 512) piece None next
+              let one = (leaf_made T fs node inode top x.block is_open.few is_open.tree middle at_x (at / 512) (omega arith) (at % 512) piece None next
               entry (omega arith) piece_wide made).0 in
               stays_then T fs node inode top x.block is_open.few is_open.tree middle next left one
-              (size_ran T fs node inode top x.block is_open.few is_open.tree known size times leaf next left ran one.0 rest)
+              (size_ran T fs node inode top x.block is_open.few is_open.tree size times leaf next left ran one.0 rest)
         ]
 
     abbrev Does_so : Step → Type 0
@@ -231,7 +229,7 @@ module _ (laws : AreAttached) (T : Types) (known : IsLayout) (old : StoreState) 
         let d = any_does T fs (run_plan bytes plan) plan.taken middle new result (subst Does_so step_of does) in
         let counts = counts_beside r.count (last_beside (at / 512)) (at / 512) ((at % 512 + length bytes) / 512 + min 1 ((at % 512 + length bytes) % 512))
         r.some r.few in
-        run_aside laws T known volume.tree is_open.few is_open.tree is_open.short.0 volume.memory middle x at_x
+        run_aside T volume.tree is_open.few is_open.tree is_open.short.0 volume.memory middle x at_x
         (ap (λ b. fields_of (readable middle fs b)) is.block ∙ sym is.fields) at bytes wide is.low r.count r.some counts.0 r.missing new d.0
         (subst (λ p. Does T fs (run_plan bytes p) middle new d.0) r.plan_is d.1)
 

@@ -7,7 +7,6 @@ use Rattle.treefs_model.specs.Reading.{byte_of}
 use Rattle.treefs_lookup.specs.Buckets.{bucket_block}
 use Rattle.treefs_lookup.specs.Bytes.{part_left}
 use Rattle.treefs_values.specs.Bytes.{bucket_at, byte_over, is_within}
-use Rattle.treefs_values.specs.KnownLayout.{IsLayout}
 use Rattle.treefs_values.specs.Volumes.{IsVolume}
 use Rattle.treefs_values.specs.Ways.{block_numbered}
 use Rattle.treefs_values.proofs.ForCallers.{byte_put, inside, put_new, stands}
@@ -18,7 +17,7 @@ few_buckets p low = elim (stands p) [ inl a ↦ let bucket = a.bucket in omega a
 
 -- Bytes that are all 0 are put into a bucket of an inode
 
-module _ (node inode top : ℕ) (type : ℕ → ℕ) (old : ℕ → List ℕ) (v : IsVolume node inode type old top) (f : IsLayout)
+module _ (node inode top : ℕ) (type : ℕ → ℕ) (old : ℕ → List ℕ) (v : IsVolume node inode type old top)
     (n : ℕ) (number : n ≢ 0) (there : block_numbered old top n ≢ 0) (bytes : List ℕ) (range : All (λ b. b < 256) bytes) (some : 0 < length bytes) (first : ℕ)
     (few : bucket_at first ≤ leaf_count) (fits : length bytes ≤ part_left first) (block_there : bucket_block old (block_numbered old top n)
     (bucket_at first) ≢ 0) (behind : Option ℕ) (zeros : (i : ℕ) → slice_index bytes i ≡ 0) where
@@ -26,10 +25,10 @@ module _ (node inode top : ℕ) (type : ℕ → ℕ) (old : ℕ → List ℕ) (v
   c = block_numbered old top n
 
   abbrev new : ℕ → List ℕ
-  new = put_new node inode top type old v f n number there bytes range some first few fits block_there behind
+  new = put_new node inode top type old v n number there bytes range some first few fits block_there behind
 
   over : (p : ℕ) → p < greatest_size → byte_of new c p ≡ byte_over first bytes (byte_of old c) p
-  over p low = byte_put node inode top type old v f n number there bytes range some first few fits block_there behind p (few_buckets p low)
+  over p low = byte_put node inode top type old v n number there bytes range some first few fits block_there behind p (few_buckets p low)
 
   pub byte_fades : (p : ℕ) → p < greatest_size → (byte_of new c p ≡ byte_of old c p) ⊎ (byte_of new c p ≡ 0)
   byte_fades p low = by (is_within first (length bytes) p) refl

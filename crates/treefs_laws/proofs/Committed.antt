@@ -7,8 +7,8 @@ use Rattle.treefs_format.specs.Inodes.{inode_bytes}
 use Rattle.treefs_format.specs.declared.fields.Fields.{Fields}
 use Rattle.treefs_format.specs.declared.kind.Kind.{Kind}
 use Rattle.treefs_format.specs.declared.kind.Kind.TheVariants as kind
+use Rattle.treefs_format.proofs.ForCallers.{inode_pointers}
 use Rattle.treefs_model.specs.Acts.{Ran}
-use Rattle.treefs_model.specs.Changes.{made}
 use Rattle.treefs_model.specs.Files.{Inode}
 use Rattle.treefs_model.specs.Reading.{key_in}
 use Rattle.treefs_lookup.specs.Readable.{readable}
@@ -21,7 +21,6 @@ use Rattle.xn_model.specs.Calls.{read_of}
 use Rattle.treefs.specs.Committing.{CommitDoes, committed_memory, if_readable}
 use Rattle.treefs.specs.declared.volume.Volume.{Volume}
 use Rattle.treefs_values.specs.Kinds.{kinds}
-use Rattle.treefs_values.specs.KnownLayout.{IsLayout}
 use Rattle.treefs_values.proofs.ForCallers.{AreBegun, IsAt, IsNew, New, bare_inode, begun_so, inode_offset, low_offset}
 use Rattle.treefs_laws.specs.Kept.{IsKept}
 use Rattle.treefs_laws.specs.Making.{MakesInode}
@@ -31,7 +30,7 @@ use Rattle.treefs_laws.proofs.FirstName.{IsDone, fine, first_begun, said, starts
 use Rattle.treefs_laws.proofs.NewPlanned.{IsFirstPlan, commit_of, first_planned}
 use Rattle.treefs_laws.proofs.Planned.{same_done, then_ok}
 
-module _ (T : Types) (state state' : StoreState) (volume : Volume) (d : ℕ) (name : List ℕ) (is_open : IsOpen T state volume) (known : IsLayout)
+module _ (T : Types) (state state' : StoreState) (volume : Volume) (d : ℕ) (name : List ℕ) (is_open : IsOpen T state volume)
     (wide : All (λ b. b < 256) name) (block : ℕ) (value : Inode) (y_is : IsBegun state volume block value) where
   abbrev fs : ℕ
   fs = volume.tree.fs.number
@@ -85,7 +84,7 @@ module _ (T : Types) (state state' : StoreState) (volume : Volume) (d : ℕ) (na
     bare = λ o has.
         let low = low_offset node inode inode o has in
         let at = inode_offset node inode inode o kept.bytes.types.0 refl has in
-        bare_inode (inode_bytes fields head) (known.inode_pointers fields head) o at.0 at.1 low.2;
+        bare_inode (inode_bytes fields head) (inode_pointers fields head) o at.0 at.1 low.2;
   }
 
   module _ (plan : CommitPlan) (p : IsFirstPlan state volume.tree volume.memory d name [] plan) where
@@ -93,17 +92,17 @@ module _ (T : Types) (state state' : StoreState) (volume : Volume) (d : ℕ) (na
     commit = commit_of state volume.tree volume.memory d name [] p.n p.directory p.addition
 
     abbrev all : List Start
-    all = starts T state state' volume d name is_open known wide value [] p.n p.directory p.free p.next p.addition p.addition_found
+    all = starts T state state' volume d name is_open wide value [] p.n p.directory p.free p.next p.addition p.addition_found
 
     abbrev Done : Type 0
-    Done = IsDone T state state' volume d name is_open known wide value [] p.n p.directory p.free p.next p.addition p.addition_found state'
+    Done = IsDone T state state' volume d name is_open wide value [] p.n p.directory p.free p.next p.addition p.addition_found state'
 
     module _ (begun : List ℕ) (b0 : StoreState) (b : AreBegun T fs node inode top is_open.few is_open.tree all [] begun state b0)
         (ran : Ran T fs (commit_acts commit name block begun) b0 state' (Ok tt)) where
       stored : Done
       stored =
           let own = b.keeps y is_new in
-          first_begun T state state' volume d name is_open known wide value [] p.n p.directory p.free p.next p.addition p.addition_found fields head
+          first_begun T state state' volume d name is_open wide value [] p.n p.directory p.free p.next p.addition p.addition_found fields head
           y_is.in_range y_is.short y_is.size k y_is.kind_is empty (sym y_is.value) all begun b0 b y b.made refl refl b.of (own.0, own.1, b.news)
           (subst (λ bs. Ran T fs (commit_acts commit name block bs) b0 state' (Ok tt)) b.blocks_are ran)
 
@@ -111,7 +110,7 @@ module _ (T : Types) (state state' : StoreState) (volume : Volume) (d : ℕ) (na
     carried does = elim does [
       | inl none ↦ absurd none
       | inr r ↦ stored r.0 r.1 (begun_so T fs node inode top is_open.few is_open.tree all [] r.0 state r.1
-          (fine T state state' volume d name is_open known wide value [] p.n p.directory p.free p.next p.addition p.addition_found) here r.2) r.3
+          (fine T state state' volume d name is_open wide value [] p.n p.directory p.free p.next p.addition p.addition_found) here r.2) r.3
     ]
 
   -- The call
@@ -136,7 +135,7 @@ module _ (T : Types) (state state' : StoreState) (volume : Volume) (d : ℕ) (na
       IsPlanned replace volume' n plan → IsOpen T state' volume' × MakesInode state state' volume volume' d name n value
   first_said replace volume' n plan p (is_planned, does, number, is) =
       let does' = subst (λ x. Does T fs (commit_plan name block x) state state' (Ok tt)) p.plan_is does in
-      let whole = said T state state' volume d name is_open known wide value [] p.n p.directory p.free p.next p.addition p.addition_found (carried plan p does') in
+      let whole = said T state state' volume d name is_open wide value [] p.n p.directory p.free p.next p.addition p.addition_found (carried plan p does') in
       subst (λ m. IsOpen T state' volume' × MakesInode state state' volume volume' d name m value) (sym number)
       (subst (λ v. IsOpen T state' v × MakesInode state state' volume v d name plan.number value) (sym is)
       (subst (λ (q : CommitPlan). IsOpen T state' (record volume { memory = committed_memory volume.memory d q })

@@ -1,5 +1,5 @@
 -- A call makes an inode with its first name: what that makes of an open volume.
-use Rattle.std.proofs.Common.{◌≡◌, ℕ, ◌-◌, ◌<◌, ◌≤◌, ◌^◌, List, [], ◌∷◌, length, drop, Ok, refl, sym, ◌∙◌, ap, inl, inr, arith, subst}
+use Rattle.std.proofs.Common.{◌≡◌, ℕ, ◌<◌, ◌≤◌, ◌^◌, List, [], ◌∷◌, length, drop, Ok, refl, sym, ◌∙◌, ap, inl, inr, arith, subst}
 use Rattle.std.specs.Prelude.{All, slice_index}
 use Rattle.std.proofs.lemmas.List.Elements.{All-cons}
 use Rattle.xn_model.specs.Types.{Types}
@@ -9,8 +9,8 @@ use Rattle.treefs_format.specs.Inodes.{inode_bytes}
 use Rattle.treefs_format.specs.declared.fields.Fields.{Fields}
 use Rattle.treefs_format.specs.declared.kind.Kind.{Kind}
 use Rattle.treefs_format.specs.declared.kind.Kind.TheVariants as kind
+use Rattle.treefs_format.proofs.ForCallers.{mode_kind, mode_permissions, mode_short}
 use Rattle.treefs_model.specs.Acts.{Ran}
-use Rattle.treefs_model.specs.Changes.{made}
 use Rattle.treefs_model.specs.Files.{Inode}
 use Rattle.treefs_model.specs.Reading.{inode_with, key_in}
 use Rattle.treefs_lookup.specs.Readable.{readable}
@@ -27,12 +27,10 @@ use Rattle.treefs.specs.declared.attributes.Attributes.{Attributes}
 use Rattle.treefs.specs.declared.volume.Volume.{Volume}
 use Rattle.treefs_values.specs.Attached.{new_content}
 use Rattle.treefs_values.specs.Kinds.{kinds}
-use Rattle.treefs_values.specs.KnownLayout.{IsLayout}
 use Rattle.treefs_values.proofs.ForCallers.{AreBegun, AreNew, AreOf, IsAt, IsFineStart, New, begun_so, blocks_in, directory_is}
 use Rattle.treefs_laws.specs.Kept.{IsKept}
 use Rattle.treefs_laws.specs.Making.{FitsAttributes, MakesInode, new_inode}
 use Rattle.treefs_laws.specs.Open.{IsOpen}
-use Rattle.treefs_laws.proofs.Attributed.{AreModes}
 use Rattle.treefs_laws.proofs.Begun.{fine_inode}
 use Rattle.treefs_laws.proofs.FirstName.{IsDone, fine, first_begun, said, starts}
 use Rattle.treefs_laws.proofs.InDirectory.{number_few}
@@ -46,7 +44,7 @@ directory_few T state state' volume middle d name bytes plan (planned, is_planne
     let found = (directory_is (readable state volume.tree.fs.number) volume.tree.top d p.free.found p.free.found_is).0 in
     number_few (readable state volume.tree.fs.number) volume.tree.top d found.number found.there
 
-module _ (T : Types) (state state' : StoreState) (volume : Volume) (d : ℕ) (name : List ℕ) (is_open : IsOpen T state volume) (known : IsLayout) (modes : AreModes)
+module _ (T : Types) (state state' : StoreState) (volume : Volume) (d : ℕ) (name : List ℕ) (is_open : IsOpen T state volume)
     (wide : All (λ b. b < 256) name) (k : Kind) (attributes : Attributes) (fit : FitsAttributes attributes) (parent : ℕ) (parent_few : parent < 2 ^ 32) (head : List ℕ)
     (head_wide : All (λ b. b < 256) head) (short : length head ≤ 384) (empty : k ≡ kind.Directory → head ≡ []) where
   abbrev fs : ℕ
@@ -80,7 +78,7 @@ module _ (T : Types) (state state' : StoreState) (volume : Volume) (d : ℕ) (na
   in_range = record {
     leaf_type = omega arith;
     node_type = is_open.short.0;
-    mode = modes.short k attributes.permissions fit.permissions;
+    mode = mode_short k attributes.permissions fit.permissions;
     links = omega arith;
     uid = fit.uid;
     gid = fit.gid;
@@ -92,7 +90,7 @@ module _ (T : Types) (state state' : StoreState) (volume : Volume) (d : ℕ) (na
   }
 
   value_is : inode_with fields (new_content k fields.parent head) ≡ value
-  value_is = ap (λ p. record value { permissions = p }) (modes.permissions k attributes.permissions fit.permissions)
+  value_is = ap (λ p. record value { permissions = p }) (mode_permissions k attributes.permissions fit.permissions)
 
   here : IsAt T fs node inode top state
   here = record { store = kept.store; root = is_open.root; volume = kept.bytes }
@@ -102,7 +100,7 @@ module _ (T : Types) (state state' : StoreState) (volume : Volume) (d : ℕ) (na
     commit = commit_of state volume.tree volume.memory d name (inode_bytes fields head) p.n p.directory p.addition
 
     abbrev behind : List Start
-    behind = starts T state state' volume d name is_open known wide value (inode_bytes fields head) p.n p.directory p.free p.next p.addition p.addition_found
+    behind = starts T state state' volume d name is_open wide value (inode_bytes fields head) p.n p.directory p.free p.next p.addition p.addition_found
 
     abbrev all : List Start
     all = record { ty = inode; bytes = inode_bytes fields head } ∷ behind
@@ -112,11 +110,11 @@ module _ (T : Types) (state state' : StoreState) (volume : Volume) (d : ℕ) (na
 
     all_fine : All Fine all
     all_fine = All-cons Fine (record { ty = inode; bytes = inode_bytes fields head }) behind
-        (fine_inode T fs node inode top is_open.few is_open.tree known kept.bytes.types.0 kept.bytes.some_types is_open.short fields head in_range head_wide short)
-        (fine T state state' volume d name is_open known wide value (inode_bytes fields head) p.n p.directory p.free p.next p.addition p.addition_found)
+        (fine_inode T fs node inode top is_open.few is_open.tree kept.bytes.types.0 kept.bytes.some_types is_open.short fields head in_range head_wide short)
+        (fine T state state' volume d name is_open wide value (inode_bytes fields head) p.n p.directory p.free p.next p.addition p.addition_found)
 
     abbrev Done : Type 0
-    Done = IsDone T state state' volume d name is_open known wide value (inode_bytes fields head) p.n p.directory p.free p.next p.addition p.addition_found state'
+    Done = IsDone T state state' volume d name is_open wide value (inode_bytes fields head) p.n p.directory p.free p.next p.addition p.addition_found state'
 
     module _ (begun : List ℕ) (b0 : StoreState) (b : AreBegun T fs node inode top is_open.few is_open.tree all [] begun state b0)
         (ran : Ran T fs (commit_acts commit name (slice_index begun 0) (drop 1 begun)) b0 state' (Ok tt)) where
@@ -124,8 +122,8 @@ module _ (T : Types) (state state' : StoreState) (volume : Volume) (d : ℕ) (na
           AreNew node inode (kinds b0 fs) (readable b0 fs) top made' → Done
       from_begun [] blocks of news = absurd of
       from_begun (y ∷ ys) blocks of news =
-          first_begun T state state' volume d name is_open known wide value (inode_bytes fields head) p.n p.directory p.free p.next p.addition p.addition_found fields head
-          in_range short refl k (modes.kind k attributes.permissions fit.permissions) empty value_is all begun b0 b y ys of.0 of.1 of.2 news
+          first_begun T state state' volume d name is_open wide value (inode_bytes fields head) p.n p.directory p.free p.next p.addition p.addition_found fields head
+          in_range short refl k (mode_kind k attributes.permissions fit.permissions) empty value_is all begun b0 b y ys of.0 of.1 of.2 news
           (subst (λ bs. Ran T fs (commit_acts commit name (slice_index bs 0) (drop 1 bs)) b0 state' (Ok tt)) blocks ran)
 
     carried : Does T fs (new_plan name (record { inode = inode_bytes fields head; commit = commit })) state state' (Ok tt) → Done
@@ -142,7 +140,7 @@ module _ (T : Types) (state state' : StoreState) (volume : Volume) (d : ℕ) (na
   new_said volume' plan (planned, is_planned, does, ok, is) =
       let p = new_planned state volume.tree volume.memory d name (inode_bytes fields head) plan (subst (IsNewPlanned state volume.tree volume.memory d name (inode_bytes fields head)) ok is_planned) in
       let does' = subst (λ x. DoesPlanned T fs (as_plan (new_plan name) x) state state' (Ok tt)) (ok ∙ ap Ok p.plan_is) does in
-      let whole = said T state state' volume d name is_open known wide value (inode_bytes fields head) p.n p.directory p.free p.next p.addition p.addition_found (carried plan p does') in
+      let whole = said T state state' volume d name is_open wide value (inode_bytes fields head) p.n p.directory p.free p.next p.addition p.addition_found (carried plan p does') in
       let plan_same : record { inode = inode_bytes fields head; commit = commit plan p } ≡ plan = sym p.plan_is in
       subst (λ v. IsOpen T state' v × MakesInode state state' volume v d name plan.commit.number value) (sym is)
       (subst (λ (q : NewPlan). IsOpen T state' (record volume { memory = committed_memory volume.memory d q.commit })

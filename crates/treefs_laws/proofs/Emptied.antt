@@ -27,7 +27,6 @@ use Rattle.treefs_byte_plans.specs.declared.roots_plan.RootsPlan.{RootsPlan}
 use Rattle.treefs.specs.Trimming.{Blanks, DoesIfAny, Drops, HasRoom, Roots, Then, TrimDoes, Waits, kept_nothing, most_drops}
 use Rattle.treefs_values.specs.Dropped.{AreOverPointers, IsHolderWay, IsLedTo, clear_act}
 use Rattle.treefs_values.specs.Kinds.{kinds}
-use Rattle.treefs_values.specs.KnownLayout.{IsLayout}
 use Rattle.treefs_values.specs.Ways.{IsFirst, IsWay, block_numbered}
 use Rattle.treefs_values.proofs.ForCallers.{IsAt, file_read, inode_numbered, inode_pointer}
 use Rattle.treefs_laws.specs.Unnamed.{IsReadAlike}
@@ -77,7 +76,7 @@ no_acts T fs acts old new result none does = by result (subst (λ acts. Does T f
 
 -- Its parts
 
-module _ (T : Types) (tree : Tree) (known : IsLayout) (c : ℕ) (fields : Fields) where
+module _ (T : Types) (tree : Tree) (c : ℕ) (fields : Fields) where
   abbrev fs : ℕ
   fs = tree.fs.number
 
@@ -152,34 +151,34 @@ module _ (T : Types) (tree : Tree) (known : IsLayout) (c : ℕ) (fields : Fields
         (of : (b : ℕ) → IsGone (readable old fs) (block_at (readable old fs) c q) places b → IsOf (readable old fs) top c b) → Leaves old new
     clear_leaves q way there places blocks behind over led act no_adds at_block drops writes ran of = record {
       at = record {
-        here = at_still T tree known old new at.here c at.is_block q way there places blocks behind over led act no_adds at_block drops writes ran at.there
+        here = at_still T tree old new at.here c at.is_block q way there places blocks behind over led act no_adds at_block drops writes ran at.there
             at.stands of;
         there = at.there;
         no_table = at.no_table;
-        is_block = still_inode_block T tree known old new at.here c at.is_block q way there places blocks behind over led act no_adds at_block drops writes ran
+        is_block = still_inode_block T tree old new at.here c at.is_block q way there places blocks behind over led act no_adds at_block drops writes ran
             at.there at.stands of at.no_table;
-        stands = still_root T tree known old new at.here c at.is_block q way there places blocks behind over led act no_adds at_block drops writes ran at.there
+        stands = still_root T tree old new at.here c at.is_block q way there places blocks behind over led act no_adds at_block drops writes ran at.there
             at.stands of at.no_table;
         fields_are =
-            still_fields T tree known old new at.here c at.is_block q way there places blocks behind over led act no_adds at_block drops writes ran at.there
+            still_fields T tree old new at.here c at.is_block q way there places blocks behind over led act no_adds at_block drops writes ran at.there
             at.stands of at.no_table
             ∙ at.fields_are;
       };
-      numbers = still_numbered T tree known old new at.here c at.is_block q way there places blocks behind over led act no_adds at_block drops writes ran
+      numbers = still_numbered T tree old new at.here c at.is_block q way there places blocks behind over led act no_adds at_block drops writes ran
           at.there at.stands of at.no_table;
-      key = still_key T tree known old new at.here c at.is_block q way there places blocks behind over led act no_adds at_block drops writes ran at.there
+      key = still_key T tree old new at.here c at.is_block q way there places blocks behind over led act no_adds at_block drops writes ran at.there
           at.stands of;
-      bytes = still_bytes T tree known old new at.here c at.is_block q way there places blocks behind over led act no_adds at_block drops writes ran at.there
+      bytes = still_bytes T tree old new at.here c at.is_block q way there places blocks behind over led act no_adds at_block drops writes ran at.there
           at.stands of at.no_table;
-      buckets = still_buckets T tree known old new at.here c at.is_block q way there places blocks behind over led act no_adds at_block drops writes ran
+      buckets = still_buckets T tree old new at.here c at.is_block q way there places blocks behind over led act no_adds at_block drops writes ran
           at.there
           at.stands of at.no_table;
-      others = still_others T tree known old new at.here c at.is_block q way there places blocks behind over led act no_adds at_block drops writes ran at.there
+      others = still_others T tree old new at.here c at.is_block q way there places blocks behind over led act no_adds at_block drops writes ran at.there
           at.stands of at.no_table;
-      beside = cleared_aside T tree known old new at.here c at.is_block q way there places blocks behind over led act no_adds at_block drops writes ran at.there
+      beside = cleared_aside T tree old new at.here c at.is_block q way there places blocks behind over led act no_adds at_block drops writes ran at.there
           at.stands of;
       alike_beside = λ a ne is.
-          cleared_alike T tree known old new at.here c at.is_block q way there places blocks behind over led act no_adds at_block drops writes ran at.there
+          cleared_alike T tree old new at.here c at.is_block q way there places blocks behind over led act no_adds at_block drops writes ran at.there
           at.stands of a is ne;
     }
 

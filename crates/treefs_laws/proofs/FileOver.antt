@@ -29,7 +29,6 @@ use Rattle.treefs.specs.Changed.{changed_volume}
 use Rattle.treefs.specs.declared.volume.Volume.{Volume}
 use Rattle.treefs_values.specs.Bytes.{put_within, with_put}
 use Rattle.treefs_values.specs.Kinds.{kinds}
-use Rattle.treefs_values.specs.KnownLayout.{IsLayout}
 use Rattle.treefs_values.specs.Values.{found_value}
 use Rattle.treefs_values.specs.Volumes.{IsVolume}
 use Rattle.treefs_values.proofs.ForCallers.{IsFound, inodes_found}
@@ -42,7 +41,7 @@ use Rattle.treefs_laws.proofs.There.{changed_there}
 use Rattle.treefs_laws.proofs.Touching.{all_touched, all_written_out, once_touched, once_written, others_touched, others_written, touched_now, written_now}
 use Rattle.treefs_laws.proofs.TrimOpen.{IsFileFound, found_file}
 
-module _ (T : Types) (known : IsLayout) (state : StoreState) (volume : Volume) (is_open : IsOpen T state volume) (n : ℕ) (x : Found)
+module _ (T : Types) (state : StoreState) (volume : Volume) (is_open : IsOpen T state volume) (n : ℕ) (x : Found)
     (x_is : file_found (readable state volume.tree.fs.number) volume.tree.top n ≡ Ok x) where
   abbrev pub fs : ℕ
   fs = volume.tree.fs.number
@@ -65,8 +64,8 @@ module _ (T : Types) (known : IsLayout) (state : StoreState) (volume : Volume) (
   abbrev pub clock : ℤ
   clock = volume.memory.clock
 
-  pub file_there : IsFileFound T known state volume is_open n x
-  file_there = found_file T known state volume is_open n x x_is
+  pub file_there : IsFileFound T state volume is_open n x
+  file_there = found_file T state volume is_open n x x_is
 
   pub found_there : IsFound content top n x
   found_there = file_there.is
@@ -117,14 +116,14 @@ module _ (T : Types) (known : IsLayout) (state : StoreState) (volume : Volume) (
 
   module _ (small : (fields_of (content x.block)).size ≤ greatest_size) (at : ℕ) where
     abbrev pub Over : (ℕ → ℕ) → List ℕ → (ℕ → List ℕ) → Type 0
-    Over type bytes m = IsOver node inode top known n found_there.number x.block x_there x.kind file_there.no_directory content (sym found_there.block)
+    Over type bytes m = IsOver node inode top n found_there.number x.block x_there x.kind file_there.no_directory content (sym found_there.block)
         kind_is small at type bytes m
 
     abbrev was_value : Inode
-    was_value = value node inode top known n found_there.number x.block x_there x.kind file_there.no_directory content (sym found_there.block) kind_is small at
+    was_value = value node inode top n found_there.number x.block x_there x.kind file_there.no_directory content (sym found_there.block) kind_is small at
 
     value_there : files_of content top n ≡ Some was_value
-    value_there = value_is node inode top known n found_there.number x.block x_there x.kind file_there.no_directory content (sym found_there.block) kind_is
+    value_there = value_is node inode top n found_there.number x.block x_there x.kind file_there.no_directory content (sym found_there.block) kind_is
         small at
 
     there : seen n ≢ None
@@ -137,7 +136,7 @@ module _ (T : Types) (known : IsLayout) (state : StoreState) (volume : Volume) (
         (o : Over (kinds new fs) bytes m) where
       -- with the times in the block
       module _ (few : at + length bytes ≤ greatest_size) (zeros : (p : ℕ) → (fields_of (content x.block)).size ≤ p → p < at → byte_of content x.block p ≡ 0)
-          (reads : readable new fs ≡ dated node inode top known n found_there.number x.block x_there x.kind file_there.no_directory content
+          (reads : readable new fs ≡ dated node inode top n found_there.number x.block x_there x.kind file_there.no_directory content
           (sym found_there.block) kind_is small at
           (kinds new fs) bytes m o clock is_open.kept.session.clock few zeros) where
         abbrev later : Volume
@@ -171,7 +170,7 @@ module _ (T : Types) (known : IsLayout) (state : StoreState) (volume : Volume) (
         pub dated_seen : files_in new later ≡ changed_at seen n (rewritten clock (λ b. overwritten b at bytes))
         dated_seen =
             ap (λ c. seen_files left (files_of c top)) reads
-            ∙ (ap (seen_files left) (dated_files node inode top known n found_there.number x.block x_there x.kind file_there.no_directory content
+            ∙ (ap (seen_files left) (dated_files node inode top n found_there.number x.block x_there x.kind file_there.no_directory content
             (sym found_there.block) kind_is small at
             (kinds new fs) bytes m o clock is_open.kept.session.clock few zeros)
             ∙ seen_changed volume.memory.touched left (files_of content top) n after (rewritten clock (λ b. overwritten b at bytes))
@@ -182,7 +181,7 @@ module _ (T : Types) (known : IsLayout) (state : StoreState) (volume : Volume) (
           kept = record {
             store = store;
             bytes = subst (λ c. IsVolume node inode (kinds new fs) c top) (sym reads)
-                (dated_volume node inode top known n found_there.number x.block x_there x.kind file_there.no_directory content (sym found_there.block)
+                (dated_volume node inode top n found_there.number x.block x_there x.kind file_there.no_directory content (sym found_there.block)
                 kind_is small at
                 (kinds new fs) bytes m o clock is_open.kept.session.clock few zeros);
             session = record {
@@ -220,7 +219,7 @@ module _ (T : Types) (known : IsLayout) (state : StoreState) (volume : Volume) (
           more = with_touched volume.memory.touched n now
 
           bytes_then : bytes_of m x.block ≡ overwritten (bytes_of content x.block) at bytes
-          bytes_then = within_bytes node inode top known n found_there.number x.block x_there x.kind file_there.no_directory content (sym found_there.block)
+          bytes_then = within_bytes node inode top n found_there.number x.block x_there x.kind file_there.no_directory content (sym found_there.block)
               kind_is small at
               (kinds new fs) bytes m o within
 
@@ -278,7 +277,7 @@ module _ (T : Types) (known : IsLayout) (state : StoreState) (volume : Volume) (
         put_bytes k other = by k other
           where
             bytes_put : bytes_of m x.block ≡ put_within at bytes (bytes_of content x.block)
-            bytes_put = put_bytes_are node inode top known n found_there.number x.block x_there x.kind file_there.no_directory content
+            bytes_put = put_bytes_are node inode top n found_there.number x.block x_there x.kind file_there.no_directory content
                 (sym found_there.block) kind_is small at
                 (kinds new fs) bytes m o
 

@@ -23,7 +23,6 @@ use Rattle.treefs_lookup.specs.declared.bucket.Bucket.{Bucket}
 use Rattle.treefs_lookup.specs.declared.inodes.Found.{Found}
 use Rattle.treefs_lookup.specs.declared.sought.Sought.TheVariants.{Live}
 use Rattle.treefs.specs.declared.volume.Volume.{Volume}
-use Rattle.treefs_values.specs.KnownLayout.{IsLayout}
 use Rattle.treefs_values.specs.Names.{bucket_entries}
 use Rattle.treefs_values.specs.Volumes.{IsDirectory}
 use Rattle.treefs_values.proofs.ForCallers.{among_numbers, candidates_few, found_inode, has_of, live_leads}
@@ -43,15 +42,15 @@ some_live at (e ∷ es) some = by (is_live e) refl some (some_live (at + entry_l
         let r = rest (sym (ap (λ b. b || list_any (λ (r : Record). is_live r.entry) (placed (at + entry_length e) es)) is) ∙ any) in
         (r.0, Contains-tail e es r.0 r.1, r.2)
 
-live_name : (content : ℕ → List ℕ) (key : List ℕ) (c : ℕ) → IsLayout → IsDirectory content key c → (k : ℕ) → k ≤ leaf_count → has_live (bucket_of content c k) ≡ true →
+live_name : (content : ℕ → List ℕ) (key : List ℕ) (c : ℕ) → IsDirectory content key c → (k : ℕ) → k ≤ leaf_count → has_live (bucket_of content c k) ≡ true →
     (name : List ℕ) × (m : ℕ) × (number_of content key c name ≡ Some m)
-live_name content key c known d k few live =
+live_name content key c d k few live =
     let e = some_live 0 (bucket_entries content c k) live in
     let there = d.placed k e.0.name few (has_of (bucket_entries content c k) e.0 e.1) in (
       e.0.name,
       e.0.number,
       among_numbers content c e.0.name (candidates (name_hash key e.0.name))
-          ∙ live_leads content c d.names k few e.0 e.1 e.2 (candidates (name_hash key e.0.name)) (λ j has. candidates_few known.high (name_hash key e.0.name) j has) there,
+          ∙ live_leads content c d.names k few e.0 e.1 e.2 (candidates (name_hash key e.0.name)) (λ j has. candidates_few (name_hash key e.0.name) j has) there,
     )
 
 pub is_one : (content : ℕ → List ℕ) (key : List ℕ) (block parent : ℕ) (k : Kind) → k ≡ kind.Directory →
@@ -64,16 +63,16 @@ pub some_file : (o : Option Inode) (inode : Inode) → ok_or o NoEntry ≡ Ok in
 some_file None inode e = absurd (cc e)
 some_file (Some x) inode e = ap Some (same_done x inode e)
 
-pub filled : (T : Types) (state : StoreState) (volume : Volume) → IsKept T state volume → IsLayout → (n : ℕ) (x : Found) →
+pub filled : (T : Types) (state : StoreState) (volume : Volume) → IsKept T state volume → (n : ℕ) (x : Found) →
     inode_found (readable state volume.tree.fs.number) volume.tree.top n ≡ Ok x → x.kind ≡ kind.Directory → (bucket : Bucket) →
     IsNextBucket state volume.tree.fs.number x.block Live 0 bucket → HasSomeName (files_in state volume) n
-filled T state volume kept known n x is one bucket next =
+filled T state volume kept n x is one bucket next =
     let content = readable state volume.tree.fs.number in
     let key = key_in content volume.tree.top in
     let f = found_inode content volume.tree.top n x is in
     let d : IsDirectory content key x.block = subst (IsDirectory content key) (sym f.block) (kept.bytes.directories n f.number f.there (f.kind ∙ ap Some one)) in
     let live = (and_parts (not (bucket_block content x.block bucket.number == 0)) (has_live (bucket_of content x.block bucket.number)) next.hit).1 in
-    let name = live_name content key x.block known d bucket.number next.few live in (
+    let name = live_name content key x.block d bucket.number next.few live in (
       name.0,
       name.1,
       (

@@ -34,7 +34,6 @@ use Rattle.treefs.specs.Remembered.{now_times}
 use Rattle.treefs.specs.declared.volume.Volume.{Volume}
 use Rattle.treefs_values.specs.Attached.{new_content}
 use Rattle.treefs_values.specs.Kinds.{kinds}
-use Rattle.treefs_values.specs.KnownLayout.{IsLayout}
 use Rattle.treefs_values.specs.Values.{led_to}
 use Rattle.treefs_values.proofs.ForCallers.{AreBegun, AreNew, AreOf, IsAt, IsDirectoryAt, IsFineStart, New, blocks_in, candidates_few, directory_stays, of_long, of_parts}
 use Rattle.treefs_laws.specs.Kept.{IsKept, files_in}
@@ -79,7 +78,7 @@ pub nodes_long : (node last : ℕ) (os : List ℕ) → length (node_starts node 
 nodes_long node last [] = refl
 nodes_long node last (o ∷ os) = ap suc (nodes_long node last os)
 
-module _ (T : Types) (state state' : StoreState) (volume : Volume) (d : ℕ) (name : List ℕ) (is_open : IsOpen T state volume) (known : IsLayout)
+module _ (T : Types) (state state' : StoreState) (volume : Volume) (d : ℕ) (name : List ℕ) (is_open : IsOpen T state volume)
     (wide : All (λ b. b < 256) name) (value : Inode) (bytes : List ℕ) (n c : ℕ) (free : IsFreeName (readable state volume.tree.fs.number) volume.tree.top d name c)
     (next : IsNextNumber state volume.tree.fs.number volume.tree.top volume.memory.hint n) (addition : Addition)
     (addition_found : addition_in state volume.tree d c name ≡ Ok addition) where
@@ -105,13 +104,13 @@ module _ (T : Types) (state state' : StoreState) (volume : Volume) (d : ℕ) (na
   kept = is_open.kept
 
   dir : IsDirectoryAt content top d c key
-  dir = directory_here T state volume d name kept known c free
+  dir = directory_here T state volume d name kept c free
 
   c_some : c ≢ 0
   c_some = dir.there
 
   few_of : (j : ℕ) → Contains (candidates (name_hash key name)) j → j ≤ leaf_count
-  few_of j has = candidates_few known.high (name_hash key name) j has
+  few_of j has = candidates_few (name_hash key name) j has
 
   placed : IsAddition content key node c name addition
   placed = addition_is state volume.tree d c name c_some few_of free addition addition_found
@@ -136,8 +135,8 @@ module _ (T : Types) (state state' : StoreState) (volume : Volume) (d : ℕ) (na
 
   pub fine : All Fine starts
   fine = All-append Fine (node_starts node inode (table_nodes commit)) (addition_starts addition)
-      (fine_nodes T fs node inode top is_open.few is_open.tree known kept.bytes.types.0 kept.bytes.some_types is_open.short (table_nodes commit))
-      (fine_addition T fs node inode top is_open.few is_open.tree known kept.bytes.types.0 kept.bytes.some_types is_open.short content key c name addition placed)
+      (fine_nodes T fs node inode top is_open.few is_open.tree kept.bytes.types.0 kept.bytes.some_types is_open.short (table_nodes commit))
+      (fine_addition T fs node inode top is_open.few is_open.tree kept.bytes.types.0 kept.bytes.some_types is_open.short content key c name addition placed)
 
   abbrev pub IsDone : StoreState → Type 0
   IsDone s = IsAt T fs node inode top s × (files_of content top n ≡ None)
@@ -164,7 +163,7 @@ module _ (T : Types) (state state' : StoreState) (volume : Volume) (d : ℕ) (na
         ap (drop (length (table_nodes commit))) split ∙ drop_at (blocks_in xs) (blocks_in zs) (length (table_nodes commit)) long in
         let ran' = subst (λ acts. Ran T fs acts b0 state' (Ok tt)) (λ j. commit_acts_of commit name y.block (front j) (back j)) ran in
         let stays = directory_stays content (readable b0 fs) top d c key b.inodes dir in
-        let done = first_named T fs node inode top is_open.few is_open.tree known state d c key name free.named wide (name_long name free.named) few_of n n_short
+        let done = first_named T fs node inode top is_open.few is_open.tree state d c key name free.named wide (name_long name free.named) few_of n n_short
         n_some n_within next.can.free fields head in_range short size k kind_is empty addition placed b0 state' y xs zs b.at stays.0
         (record { alike = stays.1; ways = stays.2 }) b.ways y_type y_bytes parts.3 parts.4
         (subst (λ l. AreNew node inode (kinds b0 fs) (readable b0 fs) top (y ∷ l)) parts.2 news) ran' in (
@@ -226,9 +225,9 @@ module _ (T : Types) (state state' : StoreState) (volume : Volume) (d : ℕ) (na
         tree = is_open.tree;
         short = is_open.short;
         root = done.0.root;
-        touched = all_touched (λ touch. files_in state' later touch.number ≢ None) d (now_times volume.memory) (still_there d (λ none. absurd (cc (sym (seen_directory T state volume d name kept known c free).1 ∙ none)))) touched
+        touched = all_touched (λ touch. files_in state' later touch.number ≢ None) d (now_times volume.memory) (still_there d (λ none. absurd (cc (sym (seen_directory T state volume d name kept c free).1 ∙ none)))) touched
             (All-weaker (λ (touch : Touched). files_in state volume touch.number ≢ None) (λ touch. files_in state' later touch.number ≢ None)
             (λ touch some. still_there touch.number some) touched is_open.touched);
       },
-      (is_new_name T state volume d name kept known c free, not_seen, files_so),
+      (is_new_name T state volume d name kept c free, not_seen, files_so),
     )

@@ -29,7 +29,6 @@ reach_there content top (o ∷ os) there =
     (ne_eqb (pointed content (block_at content top os) o) 0 there)
 
 module _ (node inode top : ℕ) (type : ℕ → ℕ) (content : ℕ → List ℕ) (v : IsVolume node inode type content top)
-    (beside : (i j o : ℕ) (holder : List ℕ) → j < leaf_count → i ≤ j → j ≤ last_beside i → steps i ≡ o ∷ holder → steps j ≡ (o + 4 * (j - i)) ∷ holder)
     (numbers : List ℕ) (leaf : ℕ) where
   -- one of those that are freed
   pub record IsFreedAt (x : Freed) : Type 0 where
@@ -54,7 +53,7 @@ module _ (node inode top : ℕ) (type : ℕ → ℕ) (content : ℕ → List ℕ
 
   pub record IsFreedRun (from count : ℕ) (xs : List Freed) : Type 0 where
     pub all : All IsFreedAt xs
-    pub rising : (low : ℕ) → low ≤ start beside leaf + 4 * (from - first_beside leaf) → AreRising low xs
+    pub rising : (low : ℕ) → low ≤ start leaf + 4 * (from - first_beside leaf) → AreRising low xs
     pub has : (l : ℕ) → from ≤ l → l < from + count → has_number numbers (l + 1) ≡ true → orphan_block content top (l + 1) ≢ 0 → is_freed xs (l + 1) ≡ true
 
   module _ (count from : ℕ) (low : first_beside leaf ≤ from) (high : from ≤ last_beside leaf) (later : IsFreedRun (from + 1) count (run (from + 1) count)) where
@@ -79,7 +78,7 @@ module _ (node inode top : ℕ) (type : ℕ → ℕ) (content : ℕ → List ℕ
     taken among some =
         let x : Freed = record { number = from + 1; offset = pointer_offset from; block = orphan_block content top (from + 1) } in
         let few = few_of from some in
-        let at = offset_beside beside leaf from few low high in
+        let at = offset_beside leaf from few low high in
         record {
           all = All-cons IsFreedAt x others
               (record {
@@ -139,7 +138,7 @@ module _ (node inode top : ℕ) (type : ℕ → ℕ) (content : ℕ → List ℕ
         let same : l + 1 - 1 ≡ l = omega arith in
         let at = (numbered_leaf node inode top type content v (l + 1) o.is.number o.is.there).leaf ∙ ap (leaf_block content top) same in
         let path : steps l ≡ pointer_offset l ∷ holder_steps leaf =
-        steps_beside beside leaf l (few_of leaf own) few low high ∙ ap (λ x. x ∷ holder_steps leaf) (sym (offset_beside beside leaf l few low high)) in
+        steps_beside leaf l (few_of leaf own) few low high ∙ ap (λ x. x ∷ holder_steps leaf) (sym (offset_beside leaf l few low high)) in
         (ap (block_at content top) (sym path) ∙ sym at, subst (λ os. IsWay os 0) path (steps_way l))
 
     own_leads : (pointed content holder (pointer_offset leaf) ≡ block_numbered content top (leaf + 1)) × IsWay (pointer_offset leaf ∷ holder_steps leaf) 0

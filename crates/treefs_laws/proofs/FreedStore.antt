@@ -1,6 +1,6 @@
 -- Inodes without links are freed whose pointers stand in one block: no number leads to them any more, and all other files are as before.
 use mathlib.Core.Path.{fun_ext}
-use Rattle.std.proofs.Common.{◌≡◌, ◌≢◌, ◌⊎◌, ℕ, ◌+◌, ◌-◌, ◌*◌, ◌<◌, ◌≤◌, true, false, List, [], ◌∷◌, length, None, Result, Ok, Err, refl, sym, ◌∙◌, ap, inl}
+use Rattle.std.proofs.Common.{◌≡◌, ◌≢◌, ◌⊎◌, ℕ, ◌+◌, ◌*◌, ◌<◌, ◌≤◌, true, false, List, [], ◌∷◌, length, None, Result, Ok, Err, refl, sym, ◌∙◌, ap, inl}
 use Rattle.std.proofs.Common.{inr, subst, arith, if◌then◌else◌}
 use Rattle.std.specs.Prelude.{All, Contains, IsTrue, map, ◌==◌}
 use Rattle.std.proofs.lemmas.Bool.{cases_eq, eq-eqb, eqb-true, ne_eqb}
@@ -11,7 +11,6 @@ use Rattle.xn_model.specs.Lists.{has_number}
 use Rattle.xn_model.specs.Lives.{StoreState}
 use Rattle.xn_model.proofs.ForCallers.{any_at, any_from, has_number_from}
 use Rattle.store_types.specs.declared.refusal.Refusal.{Refusal}
-use Rattle.treefs_format.specs.Paths.{last_beside, leaf_count, steps}
 use Rattle.treefs_lookup.specs.Readable.{answered, readable}
 use Rattle.treefs_lookup.specs.Walks.{holder_steps}
 use Rattle.treefs_model.specs.Acts.{Ran}
@@ -24,7 +23,6 @@ use Rattle.treefs.specs.declared.reap_plan.Freed.{Freed}
 use Rattle.treefs.specs.declared.reap_plan.ReapPlan.{ReapPlan}
 use Rattle.treefs_values.specs.Dropped.{AreOverPointers, IsCovered, IsHolderWay, IsLedTo, clear_act, zero_patch}
 use Rattle.treefs_values.specs.Kinds.{kinds}
-use Rattle.treefs_values.specs.KnownLayout.{IsLayout}
 use Rattle.treefs_values.specs.Volumes.{IsVolume}
 use Rattle.treefs_values.specs.Ways.{IsWay, block_numbered}
 use Rattle.treefs_values.proofs.ForCallers.{IsAt, low_offset}
@@ -46,8 +44,7 @@ read_whole (Err refusal) long = absurd (omega (arith, long))
 
 -- The edit
 
-module _ (T : Types) (tree : Tree) (known : IsLayout)
-    (beside : (i j o : ℕ) (holder : List ℕ) → j < leaf_count → i ≤ j → j ≤ last_beside i → steps i ≡ o ∷ holder → steps j ≡ (o + 4 * (j - i)) ∷ holder)
+module _ (T : Types) (tree : Tree)
     (old new : StoreState) (here : IsAt T tree.fs.number tree.node_type tree.inode_type tree.top old) (numbers : List ℕ) (leaf : ℕ)
     (own : orphan_block (readable old tree.fs.number) tree.top (leaf + 1) ≢ 0) where
   abbrev fs : ℕ
@@ -75,26 +72,26 @@ module _ (T : Types) (tree : Tree) (known : IsLayout)
   top_is = numbered_block node inode top type content v 0 v.root
 
   abbrev Freed_so : Freed → Type 0
-  Freed_so x = IsFreedAt node inode top type content v beside numbers leaf x
+  Freed_so x = IsFreedAt node inode top type content v numbers leaf x
 
   abbrev freed : List Freed
   freed = freed_beside content top numbers leaf
 
   abbrev b : ℕ
-  b = holder node inode top type content v beside numbers leaf own
+  b = holder node inode top type content v numbers leaf own
 
   there : b ≢ 0
-  there = holder_there node inode top type content v beside numbers leaf own
+  there = holder_there node inode top type content v numbers leaf own
 
   way : IsHolderWay (holder_steps leaf)
-  way = holder_way node inode top type content v beside numbers leaf own
+  way = holder_way node inode top type content v numbers leaf own
 
   all_freed : (x : Freed) → Contains freed x → Freed_so x
-  all_freed x has = all_in Freed_so freed x (freed_known node inode top type content v beside numbers leaf).all has
+  all_freed x has = all_in Freed_so freed x (freed_known node inode top type content v numbers leaf).all has
 
   one_leads : (x : Freed) → Freed_so x → (pointed content b x.offset ≡ x.block) × IsWay (x.offset ∷ holder_steps leaf) 0
   one_leads x is =
-      let l = leads node inode top type content v beside numbers leaf own is.place is.few is.low is.high is.orphan in
+      let l = leads node inode top type content v numbers leaf own is.place is.few is.low is.high is.orphan in
       (ap (pointed content b) is.offset ∙ (l.0 ∙ sym is.block), subst (λ o. IsWay (o ∷ holder_steps leaf) 0) (sym is.offset) l.1)
 
   one_pointer : (x : Freed) → Freed_so x → IsTrue (has_pointer node inode (type b) x.offset)
@@ -171,7 +168,7 @@ module _ (T : Types) (tree : Tree) (known : IsLayout)
 
       writes_here : patched (content b) (patch ∷ []) ≡ patched (content b) (map zero_patch places)
       writes_here =
-          patch_clears (content b) freed whole ((freed_known node inode top type content v beside numbers leaf).rising 0 (omega arith)) fits
+          patch_clears (content b) freed whole ((freed_known node inode top type content v numbers leaf).rising 0 (omega arith)) fits
           ∙ cleared_patched (content b) freed
         where
           fits : All (λ (f : Freed). f.offset + 4 ≤ 512) freed
@@ -192,14 +189,14 @@ module _ (T : Types) (tree : Tree) (known : IsLayout)
       drops = ap (map (λ (f : Freed). f.block)) is.freed_are
 
       pub freed_at_still : IsAt T fs node inode top new
-      freed_at_still = at_still T tree known old new here top top_is (holder_steps leaf) way there places blocks None over led (reap_act plan) refl at_holder
+      freed_at_still = at_still T tree old new here top top_is (holder_steps leaf) way there places blocks None over led (reap_act plan) refl at_holder
           drops writes ran v.root (inl (0, refl)) of
 
       pub freed_aside : KeepsAside tree old new
       freed_aside c a = (
-        cleared_aside T tree known old new here top top_is (holder_steps leaf) way there places blocks None over led (reap_act plan) refl at_holder drops
+        cleared_aside T tree old new here top top_is (holder_steps leaf) way there places blocks None over led (reap_act plan) refl at_holder drops
             writes ran v.root (inl (0, refl)) of c a,
-        cleared_alike T tree known old new here top top_is (holder_steps leaf) way there places blocks None over led (reap_act plan) refl at_holder drops
+        cleared_alike T tree old new here top top_is (holder_steps leaf) way there places blocks None over led (reap_act plan) refl at_holder drops
             writes ran v.root (inl (0, refl)) of c a a.no_root,
       )
 
@@ -209,7 +206,7 @@ module _ (T : Types) (tree : Tree) (known : IsLayout)
           let x = all_freed r.0 r.1 in
           let same : x.place + 1 ≡ m = sym x.number ∙ eqb-true r.0.number m r.2 in
           let block : r.0.block ≡ block_numbered content top m = x.block ∙ ap (block_numbered content top) same in
-          no_file_then T tree known old new here top top_is (holder_steps leaf) way there places blocks None over led (reap_act plan) refl at_holder drops
+          no_file_then T tree old new here top top_is (holder_steps leaf) way there places blocks None over led (reap_act plan) refl at_holder drops
           writes ran v.root (inl (0, refl)) of m
           (λ z. absurd (omega (arith, same, z))) (λ z. one_there r.0 x (block ∙ z))
           (has_number_from blocks (block_numbered content top m) (subst (Contains blocks) block (mapped (λ (f : Freed). f.block) freed r.0 r.1)))
@@ -217,12 +214,12 @@ module _ (T : Types) (tree : Tree) (known : IsLayout)
       pub others_there : (m : ℕ) → m ≢ 0 → is_freed (freed_beside (readable old tree.fs.number) tree.top numbers leaf) m ≡ false →
           files_of (readable new fs) top m ≡ files_of content top m
       others_there m some e =
-          still_files T tree known old new here top top_is (holder_steps leaf) way there places blocks None over led (reap_act plan) refl at_holder drops writes
+          still_files T tree old new here top top_is (holder_steps leaf) way there places blocks None over led (reap_act plan) refl at_holder drops writes
           ran v.root (inl (0, refl)) of m not_top some
           (λ gone.
           let r = gone_from (block_numbered content top m) gone in
           let x = all_freed r.0 r.1 in
-          let same : m ≡ x.place + 1 = inodes_apart node inode top type content v known m (x.place + 1) gone.0 (sym r.2 ∙ x.block) in
+          let same : m ≡ x.place + 1 = inodes_apart node inode top type content v m (x.place + 1) gone.0 (sym r.2 ∙ x.block) in
           absurd (cc (sym e ∙ any_from (λ (f : Freed). f.number == m) freed r.0 r.1 (eq-eqb r.0.number m (x.number ∙ sym same)))))
         where
           not_top : block_numbered content top m ≢ top
@@ -246,4 +243,4 @@ module _ (T : Types) (tree : Tree) (known : IsLayout)
       let one = one_block leaf in
       let low = one.0 in
       let high = one.1 in
-      (freed_known node inode top type content v beside numbers leaf).has leaf low (omega arith) among own
+      (freed_known node inode top type content v numbers leaf).has leaf low (omega arith) among own

@@ -16,7 +16,6 @@ use Rattle.treefs_model.specs.declared.fault.Fault.{Fault}
 use Rattle.treefs.specs.Trimming.{GiveUpDoes, TrimDoes, kept_nothing}
 use Rattle.treefs.specs.declared.volume.Volume.{Volume}
 use Rattle.treefs_values.specs.Kinds.{kinds}
-use Rattle.treefs_values.specs.KnownLayout.{IsLayout}
 use Rattle.treefs_values.specs.Ways.{block_numbered}
 use Rattle.treefs_values.proofs.ForCallers.{IsAt}
 use Rattle.treefs_laws.specs.Kept.{files_in}
@@ -30,7 +29,7 @@ use Rattle.treefs_laws.proofs.PointersGone.{IsRoot, IsUnled}
 use Rattle.treefs_laws.proofs.WaysApart.{numbered_led}
 use mathlib.Core.Path.{fun_ext}
 
-module _ (T : Types) (known : IsLayout) (old : StoreState) (volume : Volume) (is_open : IsOpen T old volume) (c : ℕ) (unnamed : IsUnnamed old volume c) where
+module _ (T : Types) (old : StoreState) (volume : Volume) (is_open : IsOpen T old volume) (c : ℕ) (unnamed : IsUnnamed old volume c) where
   abbrev fs : ℕ
   fs = volume.tree.fs.number
 
@@ -41,7 +40,7 @@ module _ (T : Types) (known : IsLayout) (old : StoreState) (volume : Volume) (is
   fields = fields_of (readable old fs c)
 
   abbrev InodeAt : StoreState → Type 0
-  InodeAt s = IsInodeAt T volume.tree known c fields s
+  InodeAt s = IsInodeAt T volume.tree c fields s
 
   -- nothing points to it still
   abbrev Unled : StoreState → Type 0
@@ -81,8 +80,8 @@ module _ (T : Types) (known : IsLayout) (old : StoreState) (volume : Volume) (is
       )
 
   module _ (new : StoreState) (result : Result (Unit {0}) Fault) (does : TrimDoes T volume.tree.fs.number volume.memory (kept_nothing c) old new result) where
-    leaves : Leaves T volume.tree known c fields old new
-    leaves = empties T volume.tree known c fields volume.memory old new result at does
+    leaves : Leaves T volume.tree c fields old new
+    leaves = empties T volume.tree c fields volume.memory old new result at does
 
     files_same : files_of (readable new fs) top ≡ files_of (readable old fs) top
     files_same = fun_ext (λ m. leaves.others m (other m))
@@ -94,10 +93,10 @@ module _ (T : Types) (known : IsLayout) (old : StoreState) (volume : Volume) (is
         by (inl (n, is)) = absurd (other n (sym (is ∙ leaves.numbers n)))
         by (inr (no_root, unled)) = unled
 
-    pub left_unnamed : IsUnnamed new volume c
+    left_unnamed : IsUnnamed new volume c
     left_unnamed = aside_unnamed new volume c (leaves.beside c (unnamed_aside T old volume c is_open unnamed))
 
-  pub given_up : (new : StoreState) (result : Result Bool Fault) → GiveUpDoes T old new volume c result → Said new
+  given_up : (new : StoreState) (result : Result Bool Fault) → GiveUpDoes T old new volume c result → Said new
   given_up new result (inl failed) = by result failed
     where
       by : (r : Result Bool Fault) → MatchResult r (λ done. ⊥) (λ fault. TrimDoes T fs volume.memory (kept_nothing c) old new (Err fault)) → Said new
@@ -115,7 +114,7 @@ module _ (T : Types) (known : IsLayout) (old : StoreState) (volume : Volume) (is
       here = (leaves middle (Ok tt) does).at.here
 
   -- it has no number where it isn't free
-  pub still_unnamed : (new : StoreState) (result : Result Bool Fault) → GiveUpDoes T old new volume c result → result ≢ Ok true → IsUnnamed new volume c
+  still_unnamed : (new : StoreState) (result : Result Bool Fault) → GiveUpDoes T old new volume c result → result ≢ Ok true → IsUnnamed new volume c
   still_unnamed new result (inl failed) not_free = by result failed
     where
       by : (r : Result Bool Fault) → MatchResult r (λ done. ⊥) (λ fault. TrimDoes T fs volume.memory (kept_nothing c) old new (Err fault)) →
@@ -129,3 +128,7 @@ module _ (T : Types) (known : IsLayout) (old : StoreState) (volume : Volume) (is
       kept_by : (r : Result (Unit {0} × StoreState) Refusal) → GivesExactly r middle new (Err reason) → new ≡ middle
       kept_by (Ok made) gives = absurd (cc gives.0)
       kept_by (Err other) gives = gives.1
+
+  pub given_said : (new : StoreState) (result : Result Bool Fault) → GiveUpDoes T old new volume c result →
+      IsOpen T new volume × (files_in new volume ≡ files_in old volume) × (result ≢ Ok true → IsUnnamed new volume c)
+  given_said new result does = let said = given_up new result does in (said.0, said.1, still_unnamed new result does)

@@ -23,7 +23,6 @@ use Rattle.treefs_lookup.specs.Readable.{readable}
 use Rattle.treefs_lookup.specs.declared.inodes.Found.{Found}
 use Rattle.treefs_lookup.specs.declared.names.Slot.{Slot}
 use Rattle.treefs.specs.declared.volume.Volume.{Volume}
-use Rattle.treefs_values.specs.KnownLayout.{IsLayout}
 use Rattle.treefs_values.specs.Values.{found_value}
 use Rattle.treefs_values.specs.Ways.{block_numbered}
 use Rattle.treefs_values.proofs.ForCallers.{IsDirectoryAt, IsFound, counted, directory_is, inode_numbered, inodes_found, numbers_named}
@@ -89,7 +88,7 @@ number_few content top n some there = by ((n == 0) || nat_lt leaf_count n) refl
     by true e = absurd (there (inode_numbered content top n some ∙ ap (λ t. if t then 0 else leaf_block content top (n - 1)) e))
     by false e = let few = counted n e in omega arith
 
-module _ (T : Types) (state : StoreState) (volume : Volume) (d : ℕ) (name : List ℕ) (kept : IsKept T state volume) (known : IsLayout) (c : ℕ)
+module _ (T : Types) (state : StoreState) (volume : Volume) (d : ℕ) (name : List ℕ) (kept : IsKept T state volume) (c : ℕ)
     (free : IsFreeName (readable state volume.tree.fs.number) volume.tree.top d name c) where
   abbrev content : ℕ → List ℕ
   content = readable state volume.tree.fs.number

@@ -24,21 +24,20 @@ use Rattle.treefs_lookup.specs.Buckets.{bucket_block, bucket_start}
 use Rattle.treefs_lookup.specs.Bytes.{part_left}
 use Rattle.treefs_edits.specs.Written.{written}
 use Rattle.treefs_values.specs.Bytes.{bucket_at, place_in_bucket}
-use Rattle.treefs_values.specs.KnownLayout.{IsLayout}
 use Rattle.treefs_values.specs.Volumes.{IsVolume, IsWholeBlock}
 use Rattle.treefs_values.specs.Ways.{IsWay, block_numbered}
 use Rattle.treefs_values.proofs.ForCallers.{IsNew, New, same_listed, steps_way}
-use Rattle.treefs_laws.proofs.Attaching.{AreAttached, attached, attached_byte, attached_fields, attached_files, attached_numbered, attached_there, attached_volume, other}
+use Rattle.treefs_laws.proofs.Attaching.{attached, attached_byte, attached_fields, attached_files, attached_numbered, attached_there, attached_volume, other}
 use Rattle.treefs_laws.proofs.OverFile.{IsOver, over_put, with_content}
 use Rattle.treefs_laws.proofs.BlockAside.{alike_byte}
 use Rattle.treefs_laws.proofs.UnledBytes.{filled, filled_above, filled_alike, filled_files, filled_itself, filled_numbered, filled_volume, filled_way}
 
-module _ (laws : AreAttached) (node inode top : ℕ) (known : IsLayout) (n : ℕ) (number : n ≢ 0) (b : ℕ) (there : b ≢ 0) (k : Kind)
+module _ (node inode top : ℕ) (n : ℕ) (number : n ≢ 0) (b : ℕ) (there : b ≢ 0) (k : Kind)
     (no_directory : k ≢ kind.Directory)
     (content : ℕ → List ℕ) (block_is : block_numbered content top n ≡ b) (is_kind : kind_of (fields_of (content b)).mode ≡ Some k)
     (small : (fields_of (content b)).size ≤ greatest_size) (at : ℕ) where
   abbrev Over : (ℕ → ℕ) → List ℕ → (ℕ → List ℕ) → Type 0
-  Over type bytes m = IsOver node inode top known n number b there k no_directory content block_is is_kind small at type bytes m
+  Over type bytes m = IsOver node inode top n number b there k no_directory content block_is is_kind small at type bytes m
 
   -- blocks that say the same of the file, and of its bytes
   pub over_same : (was type : ℕ → ℕ) (bytes : List ℕ) (m m' : ℕ → List ℕ) → Over was bytes m → IsVolume node inode type m' top → block_numbered m' top n ≡ b →
@@ -122,7 +121,7 @@ module _ (laws : AreAttached) (node inode top : ℕ) (known : IsLayout) (n : ℕ
     as_zeros e = refl
 
     abbrev m1 : ℕ → List ℕ
-    m1 = attached laws node inode top type m0 v0 n number 0 off above way h0_there z0 new0 no_node as_data none0 2 None
+    m1 = attached node inode top type m0 v0 n number 0 off above way h0_there z0 new0 no_node as_data none0 2 None
 
     byte0 : (p : ℕ) → byte_of m0 b p ≡ byte_of m b p
     byte0 p = subst (λ x. byte_of m0 x p ≡ byte_of m x p) o.block
@@ -135,19 +134,19 @@ module _ (laws : AreAttached) (node inode top : ℕ) (known : IsLayout) (n : ℕ
 
     over1 : Over type bytes m1
     over1 = over_same type type bytes m m1 o
-        (attached_volume laws node inode top type m0 v0 n number 0 off above way h0_there z0 new0 no_node as_data none0 2 None as_zeros)
-        (attached_numbered laws node inode top type m0 v0 n number 0 off above way h0_there z0 new0 no_node as_data none0 2 None ∙ numbered0)
-        (subst (λ x. fields_of (m1 x) ≡ fields_of (m0 x)) numbered0 (attached_fields laws node inode top type m0 v0 n number 0 off above way h0_there z0
+        (attached_volume node inode top type m0 v0 n number 0 off above way h0_there z0 new0 no_node as_data none0 2 None as_zeros)
+        (attached_numbered node inode top type m0 v0 n number 0 off above way h0_there z0 new0 no_node as_data none0 2 None ∙ numbered0)
+        (subst (λ x. fields_of (m1 x) ≡ fields_of (m0 x)) numbered0 (attached_fields node inode top type m0 v0 n number 0 off above way h0_there z0
         new0 no_node as_data none0 2 None) ∙ fields0)
-        (attached_files laws node inode top type m0 v0 n number 0 off above way h0_there z0 new0 no_node as_data none0 2 None as_zeros
+        (attached_files node inode top type m0 v0 n number 0 off above way h0_there z0 new0 no_node as_data none0 2 None as_zeros
         ∙ filled_files node inode top type m o.volume z new of_data (zeros 512) zeros_whole)
         (λ p low. subst (λ x. byte_of m1 x p ≡ byte_of m0 x p) numbered0
-        (attached_byte laws node inode top type m0 v0 n number 0 off above way h0_there z0 new0 no_node as_data none0 2 None as_zeros p low) ∙ byte0 p)
+        (attached_byte node inode top type m0 v0 n number 0 off above way h0_there z0 new0 no_node as_data none0 2 None as_zeros p low) ∙ byte0 p)
 
     leaf1 : leaf_block m1 b i ≡ z.block
     leaf1 =
         ap (block_at m1 b) steps_are
-        ∙ subst (λ x. block_at m1 x (off ∷ above) ≡ z.block) numbered0 (attached_there laws node inode top type m0 v0 n number 0 off above way h0_there z0
+        ∙ subst (λ x. block_at m1 x (off ∷ above) ≡ z.block) numbered0 (attached_there node inode top type m0 v0 n number 0 off above way h0_there z0
         new0 no_node as_data none0 2 None)
 
     -- and then the bytes
@@ -187,12 +186,12 @@ module _ (laws : AreAttached) (node inode top : ℕ) (known : IsLayout) (n : ℕ
     over_last : Over type (bytes ++ more) last
     over_last = subst (Over type (bytes ++ more))
         (λ j. written (patch_act ((ap (λ x. bucket_block m1 x (bucket_at first)) over1.block ∙ block_of) j) (one_patch (offset_of j) more) None) m1)
-        (over_put node inode top known n number b there k no_directory content block_is is_kind small at type bytes m1 over1 more range some few_there
+        (over_put node inode top n number b there k no_directory content block_is is_kind small at type bytes m1 over1 more range some few_there
         fits_there
         (λ e. new.there (sym block_of ∙ e)) None)
 
     not_holder : z.block ≢ h
-    not_holder e = other laws node inode top type m0 v0 n number 0 off above way h0_there z0 new0 no_node as_data none0 2 None (e ∙ sym h0_is)
+    not_holder e = other node inode top type m0 v0 n number 0 off above way h0_there z0 new0 no_node as_data none0 2 None (e ∙ sym h0_is)
 
     -- that is the block with its own bytes
     last_is : last ≡ then_attached

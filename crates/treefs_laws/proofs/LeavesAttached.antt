@@ -19,10 +19,9 @@ use Rattle.treefs_model.specs.Trees.{has_pointer}
 use Rattle.treefs_edits.specs.Written.{written}
 use Rattle.treefs_byte_plans.specs.Runs.{leaf_starts}
 use Rattle.treefs_values.specs.Attached.{IsPointerSet}
-use Rattle.treefs_values.specs.KnownLayout.{IsLayout}
 use Rattle.treefs_values.specs.Ways.{IsWay, block_numbered}
 use Rattle.treefs_values.proofs.ForCallers.{AreNew, AreOf, IsNew, IsOther, New, blocks_in, new_kept, onto, steps_way}
-use Rattle.treefs_laws.proofs.Attaching.{AreAttached, above_stays, attached, attached_byte, attached_fields, attached_files, attached_keeps, attached_numbered, attached_there, attached_volume, not_on_way, set, way_pointer}
+use Rattle.treefs_laws.proofs.Attaching.{above_stays, attached, attached_byte, attached_fields, attached_files, attached_keeps, attached_numbered, attached_there, attached_volume, not_on_way, set, way_pointer}
 use Rattle.treefs_laws.proofs.LeafAttached.{leaf_over, over_same}
 use Rattle.treefs_laws.proofs.OverFile.{IsOver}
 use Rattle.treefs_laws.proofs.PointersPatched.{attach_each}
@@ -46,12 +45,12 @@ pub way_up : (l0 o : ℕ) (q os : List ℕ) → IsWay (l0 ∷ onto (o ∷ q) os)
 way_up l0 o q [] way = way.3
 way_up l0 o q (p ∷ os) way = way_up l0 p (o ∷ q) os way
 
-module _ (laws : AreAttached) (T : Types) (fs node inode top : ℕ) (fs_few : fs < 32) (tree : IsTree T node inode) (known : IsLayout) (n : ℕ)
+module _ (T : Types) (fs node inode top : ℕ) (fs_few : fs < 32) (tree : IsTree T node inode) (n : ℕ)
     (number : n ≢ 0) (b : ℕ) (there : b ≢ 0)
     (k : Kind) (no_directory : k ≢ kind.Directory) (content : ℕ → List ℕ) (block_is : block_numbered content top n ≡ b)
     (is_kind : kind_of (fields_of (content b)).mode ≡ Some k) (small : (fields_of (content b)).size ≤ greatest_size) (at : ℕ) (type : ℕ → ℕ) where
   abbrev Over : List ℕ → (ℕ → List ℕ) → Type 0
-  Over bytes m = IsOver node inode top known n number b there k no_directory content block_is is_kind small at type bytes m
+  Over bytes m = IsOver node inode top n number b there k no_directory content block_is is_kind small at type bytes m
 
   abbrev IsOne : (ℕ → List ℕ) → New → Type 0
   IsOne m x = IsNew node inode type m top x
@@ -80,33 +79,33 @@ module _ (laws : AreAttached) (T : Types) (fs node inode top : ℕ) (fs_few : fs
     none_there = ap (λ c. pointed m c off) holder_is ∙ none
 
     abbrev made : ℕ → List ℕ
-    made = attached laws node inode top type m o.volume n number l off q way holder_there x new as_node as_data none_there ty None
+    made = attached node inode top type m o.volume n number l off q way holder_there x new as_node as_data none_there ty None
 
     made_is : made ≡ with_one
     made_is = ap (λ c. written (attach_act c off ty (x.block ∷ []) None) m) holder_is
 
     pub one_set : IsPointerSet node inode type m with_one h off x.block
     one_set = subst (λ c. IsPointerSet node inode type m (written (attach_act c off ty (x.block ∷ []) None) m) c off x.block) holder_is
-        (set laws node inode top type m o.volume n number l off q way holder_there x new as_node as_data none_there ty None)
+        (set node inode top type m o.volume n number l off q way holder_there x new as_node as_data none_there ty None)
 
     pub one_above : block_at with_one b q ≡ h
     one_above =
         ap (λ c. block_at with_one c q) (sym o.block)
         ∙ (ap (λ c. block_at c (block_numbered m top n) q) (sym made_is)
-        ∙ (above_stays laws node inode top type m o.volume n number l off q way holder_there x new as_node as_data none_there ty None ∙ holder_is))
+        ∙ (above_stays node inode top type m o.volume n number l off q way holder_there x new as_node as_data none_there ty None ∙ holder_is))
 
     pub one_there : block_at with_one b (off ∷ q) ≡ x.block
     one_there =
         ap (λ c. block_at with_one c (off ∷ q)) (sym o.block)
         ∙ (ap (λ c. block_at c (block_numbered m top n) (off ∷ q)) (sym made_is)
-        ∙ attached_there laws node inode top type m o.volume n number l off q way holder_there x new as_node as_data none_there ty None)
+        ∙ attached_there node inode top type m o.volume n number l off q way holder_there x new as_node as_data none_there ty None)
 
     pub one_other : (y : New) → IsOne m y → Plain y → y.block ≢ h
     one_other y is plain same = not_on_way node inode top type m o.volume n l off q way holder_there y is plain (same ∙ sym holder_is)
 
     pub one_keeps : (y : New) → IsOne m y → Plain y → IsOther x y → IsOne with_one y
     one_keeps y is plain ne = subst (λ c. IsOne c y) made_is
-        (attached_keeps laws node inode top type m o.volume n number l off q way holder_there x new as_node as_data none_there ty None y is ne
+        (attached_keeps node inode top type m o.volume n number l off q way holder_there x new as_node as_data none_there ty None y is ne
         (λ same. one_other y is plain (same ∙ holder_is)))
 
     pub one_all : (ys : List New) → All Plain ys → All (IsOther x) ys → AreNew node inode type m top ys → AreNew node inode type with_one top ys
@@ -123,17 +122,17 @@ module _ (laws : AreAttached) (T : Types) (fs node inode top : ℕ) (fs_few : fs
     -- a node changes no byte of the file
     pub one_over : (l ≡ 0 → ⊥) → Over bytes with_one
     one_over not_leaf =
-        subst (Over bytes) made_is (over_same laws node inode top known n number b there k no_directory content block_is is_kind small at type type bytes m
+        subst (Over bytes) made_is (over_same node inode top n number b there k no_directory content block_is is_kind small at type type bytes m
         made o
-        (attached_volume laws node inode top type m o.volume n number l off q way holder_there x new as_node as_data none_there ty None
+        (attached_volume node inode top type m o.volume n number l off q way holder_there x new as_node as_data none_there ty None
         (λ e. absurd (not_leaf e)))
-        (attached_numbered laws node inode top type m o.volume n number l off q way holder_there x new as_node as_data none_there ty None ∙ o.block)
+        (attached_numbered node inode top type m o.volume n number l off q way holder_there x new as_node as_data none_there ty None ∙ o.block)
         (subst (λ c. fields_of (made c) ≡ fields_of (m c)) o.block
-        (attached_fields laws node inode top type m o.volume n number l off q way holder_there x new as_node as_data none_there ty None))
-        (attached_files laws node inode top type m o.volume n number l off q way holder_there x new as_node as_data none_there ty None
+        (attached_fields node inode top type m o.volume n number l off q way holder_there x new as_node as_data none_there ty None))
+        (attached_files node inode top type m o.volume n number l off q way holder_there x new as_node as_data none_there ty None
         (λ e. absurd (not_leaf e)))
         (λ p low. subst (λ c. byte_of made c p ≡ byte_of m c p) o.block
-        (attached_byte laws node inode top type m o.volume n number l off q way holder_there x new as_node as_data none_there ty None
+        (attached_byte node inode top type m o.volume n number l off q way holder_there x new as_node as_data none_there ty None
         (λ e. absurd (not_leaf e)) p low)))
 
   -- Leaves
@@ -238,7 +237,7 @@ module _ (laws : AreAttached) (T : Types) (fs node inode top : ℕ) (fs_few : fs
 
     over1 : Over (bytes ++ more) m1
     over1 = subst (Over (bytes ++ more)) (ap (λ c. written (attach_act c off 2 (z.block ∷ []) None) m) h_is)
-        (leaf_over laws node inode top known n number b there k no_directory content block_is is_kind small at type bytes m o i few off above steps_are
+        (leaf_over node inode top n number b there k no_directory content block_is is_kind small at type bytes m o i few off above steps_are
         (λ e. h_there (sym h_is ∙ e)) (ap (λ c. pointed m c off) h_is ∙ none) z news.0 of.0 more (All-take (λ b. b < 256) (512 - place) rest range)
         more_some s.high s.leaf_is more_fits
         (of.1 ∙ ap (λ p. put (zeros 512) p more) (sym s.place_is)))

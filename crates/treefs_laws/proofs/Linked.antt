@@ -43,7 +43,6 @@ use Rattle.treefs.specs.Remembered.{now_times}
 use Rattle.treefs.specs.Unlinking.{as_plan}
 use Rattle.treefs.specs.declared.volume.Volume.{Volume}
 use Rattle.treefs_values.specs.Kinds.{kinds}
-use Rattle.treefs_values.specs.KnownLayout.{IsLayout}
 use Rattle.treefs_values.specs.Values.{AreChanges, found_value, inode_with_links, led_to, links_parts}
 use Rattle.treefs_values.specs.Ways.{block_numbered}
 use Rattle.treefs_values.proofs.ForCallers.{AreBegun, AreNew, AreOf, IsAt, IsDirectoryAt, IsEdit, IsFound, New, begun_so, blocks_in, candidates_few, directory_kept, directory_stays, edit_is, fields_files, fields_here, fields_inode, fields_keep, fields_key, found_inode, inodes_found, links_make, new_kept, same_size}
@@ -163,7 +162,7 @@ not_directory content key block parent kind.Directory ne = absurd (ne refl)
 not_directory content key block parent kind.File ne = refl
 not_directory content key block parent kind.SymbolicLink ne = refl
 
-module _ (T : Types) (state state' : StoreState) (volume : Volume) (n d : ℕ) (name : List ℕ) (is_open : IsOpen T state volume) (known : IsLayout) (wide : All (λ b. b < 256) name)
+module _ (T : Types) (state state' : StoreState) (volume : Volume) (n d : ℕ) (name : List ℕ) (is_open : IsOpen T state volume) (wide : All (λ b. b < 256) name)
     (plan : LinkPlan) (p : IsLinkPlan state volume.tree volume.memory n d name plan) where
   abbrev fs : ℕ
   fs = volume.tree.fs.number
@@ -193,10 +192,10 @@ module _ (T : Types) (state state' : StoreState) (volume : Volume) (n d : ℕ) (
   kept = is_open.kept
 
   dir : IsDirectoryAt content top d c key
-  dir = directory_here T state volume d name kept known c p.free
+  dir = directory_here T state volume d name kept c p.free
 
   few_of : (j : ℕ) → Contains (candidates (name_hash key name)) j → j ≤ leaf_count
-  few_of j has = candidates_few known.high (name_hash key name) j has
+  few_of j has = candidates_few (name_hash key name) j has
 
   placed : IsAddition content key node c name p.addition
   placed = addition_is state volume.tree d c name dir.there few_of p.free p.addition p.addition_found
@@ -254,7 +253,7 @@ module _ (T : Types) (state state' : StoreState) (volume : Volume) (n d : ℕ) (
   here : IsAt T fs node inode top state
   here = record { store = kept.store; root = is_open.root; volume = kept.bytes }
 
-  linked_then : (b0 : StoreState) (zs : List New) (q : IsPrepared T fs node inode top is_open.few is_open.tree known state d c key name p.free.named wide (name_long name p.free.named) few_of n n_short
+  linked_then : (b0 : StoreState) (zs : List New) (q : IsPrepared T fs node inode top is_open.few is_open.tree state d c key name p.free.named wide (name_long name p.free.named) few_of n n_short
       p.addition (links_act p.inode.block (links + 1) newest None (Some (holder_of content top n)) ∷ addition_acts p.addition (blocks_in zs) (record { number = n; name = name }) p.inode.block) b0 state') →
       (block_numbered (readable q.middle fs) top n ≡ c_n) → (fields_of (readable q.middle fs c_n) ≡ p.inode.fields) →
       (files_of (readable b0 fs) top ≡ files_of content top) →
@@ -273,16 +272,16 @@ module _ (T : Types) (state state' : StoreState) (volume : Volume) (n d : ℕ) (
         let was = fields_of (readable m fs (block_numbered (readable m fs) top n)) in
         let sizes = same_size was (links + 1) newest None in
         let makes = links_make was (links + 1) newest None in
-        let done_here = fields_here T fs node inode top known m s2 q.prepared n is.number there changes fine (Some (holder_of content top n)) edit sizes.0 sizes.1 change makes in
-        let done_files = fields_files T fs node inode top known m s2 q.prepared n is.number there changes fine (Some (holder_of content top n)) edit sizes.0 sizes.1 change makes in
-        let d_kept = fields_inode T fs node inode top known m s2 q.prepared n is.number there changes fine (Some (holder_of content top n)) edit d (λ e. apart (sym e)) q.dir.number
+        let done_here = fields_here T fs node inode top m s2 q.prepared n is.number there changes fine (Some (holder_of content top n)) edit sizes.0 sizes.1 change makes in
+        let done_files = fields_files T fs node inode top m s2 q.prepared n is.number there changes fine (Some (holder_of content top n)) edit sizes.0 sizes.1 change makes in
+        let d_kept = fields_inode T fs node inode top m s2 q.prepared n is.number there changes fine (Some (holder_of content top n)) edit d (λ e. apart (sym e)) q.dir.number
         (λ z. q.dir.there (sym q.dir.block ∙ z)) in
-        let key_kept = fields_key T fs node inode top known m s2 q.prepared n is.number there changes fine (Some (holder_of content top n)) edit in
+        let key_kept = fields_key T fs node inode top m s2 q.prepared n is.number there changes fine (Some (holder_of content top n)) edit in
         let stays = directory_kept (readable m fs) (readable s2 fs) top d c key key_kept d_kept q.dir in
-        let ready = ready_stays T fs node inode top is_open.few is_open.tree known state d c key name p.free.named wide (name_long name p.free.named) few_of n n_short m s2 stays.1 stays.2 p.addition q.ready in
+        let ready = ready_stays T fs node inode top is_open.few is_open.tree state d c key name p.free.named wide (name_long name p.free.named) few_of n n_short m s2 stays.1 stays.2 p.addition q.ready in
         let zs_new = new_kept node inode top (kinds b0 fs) (kinds s2 fs) (readable b0 fs) (readable s2 fs) (λ x. Unit {0}) zs (λ i e lt. tt)
-        (λ x any x_new. fields_keep T fs node inode top known m s2 q.prepared n is.number there changes fine (Some (holder_of content top n)) edit x (q.keeps x x_new)) news in
-        let done = addition_made T fs node inode top is_open.few is_open.tree known state d c key name p.free.named wide (name_long name p.free.named) few_of n n_short p.addition s2 state'
+        (λ x any x_new. fields_keep T fs node inode top m s2 q.prepared n is.number there changes fine (Some (holder_of content top n)) edit x (q.keeps x x_new)) news in
+        let done = addition_made T fs node inode top is_open.few is_open.tree state d c key name p.free.named wide (name_long name p.free.named) few_of n n_short p.addition s2 state'
         p.inode.block zs done_here stays.0 ready of zs_new r.3 in
         (done.0, done.1 ∙ ap (λ f. with_name f d name (led_to n)) (done_files ∙ ap (λ f. changed_at f n change) (q.files ∙ files_same)))
   ]
@@ -293,7 +292,7 @@ module _ (T : Types) (state state' : StoreState) (volume : Volume) (n d : ℕ) (
       let zs : List New = b.made in
       let ran' = subst (λ bs. Ran T fs (link_acts (plan_of state volume.tree memory n d name c p.inode p.addition) name bs) b0 state' (Ok tt)) b.blocks_are ran in
       let stays = directory_stays content (readable b0 fs) top d c key b.inodes dir in
-      let q = prepared_so T fs node inode top is_open.few is_open.tree known state d c key name p.free.named wide (name_long name p.free.named) few_of n n_short p.addition
+      let q = prepared_so T fs node inode top is_open.few is_open.tree state d c key name p.free.named wide (name_long name p.free.named) few_of n n_short p.addition
       (links_act p.inode.block (links + 1) newest None (Some (holder_of content top n)) ∷ addition_acts p.addition (blocks_in zs) (record { number = n; name = name }) p.inode.block)
       b0 state' b.at stays.0 (record { alike = stays.1; ways = stays.2 }) placed ran' in
       let first = b.inodes.inodes n is.number is.there in
@@ -307,7 +306,7 @@ module _ (T : Types) (state state' : StoreState) (volume : Volume) (n d : ℕ) (
     | inl none ↦ absurd none
     | inr r ↦
         linked_begun r.0 r.1 (begun_so T fs node inode top is_open.few is_open.tree (addition_starts p.addition) [] r.0 state r.1
-        (fine_addition T fs node inode top is_open.few is_open.tree known kept.bytes.types.0 kept.bytes.some_types is_open.short content key c name p.addition placed) here r.2) r.3
+        (fine_addition T fs node inode top is_open.few is_open.tree kept.bytes.types.0 kept.bytes.some_types is_open.short content key c name p.addition placed) here r.2) r.3
   ]
 
   -- The volume
@@ -378,7 +377,7 @@ module _ (T : Types) (state state' : StoreState) (volume : Volume) (n d : ℕ) (
       short = is_open.short;
       root = done.0.root;
       touched = all_touched (λ touch. files_in state' later touch.number ≢ None) d (now_times memory)
-          (still_there d (λ none. absurd (cc (sym (seen_directory T state volume d name kept known c p.free).1 ∙ none)))) left
+          (still_there d (λ none. absurd (cc (sym (seen_directory T state volume d name kept c p.free).1 ∙ none)))) left
           (all_written_out (λ touch. files_in state' later touch.number ≢ None) n touched
           (All-weaker (λ (touch : Touched). files_in state volume touch.number ≢ None) (λ touch. files_in state' later touch.number ≢ None)
           (λ touch some. still_there touch.number some) touched is_open.touched));
@@ -393,10 +392,10 @@ module _ (T : Types) (state state' : StoreState) (volume : Volume) (n d : ℕ) (
     linked_files : linked (files_in state volume) memory.clock n d name ≡ Ok (files_in state' later)
     linked_files =
         ap (λ r. and_then r (λ x. and_then (found (files_in state volume) n) (λ i. and_then (linkable i) (λ fine. and_then (new_name (files_in state volume) d name) (λ new. Ok after)))))
-        (is_directory_at T state volume d name kept known c p.free).1
+        (is_directory_at T state volume d name kept c p.free).1
         ∙ (ap (λ r. and_then r (λ i. and_then (linkable i) (λ fine. and_then (new_name (files_in state volume) d name) (λ new. Ok after)))) seen_found
         ∙ (ap (λ r. and_then r (λ fine. and_then (new_name (files_in state volume) d name) (λ new. Ok after))) may_link
-        ∙ (ap (λ r. and_then r (λ new. Ok after)) (is_new_name T state volume d name kept known c p.free) ∙ ap Ok (sym files_so))))
+        ∙ (ap (λ r. and_then r (λ new. Ok after)) (is_new_name T state volume d name kept c p.free) ∙ ap Ok (sym files_so))))
       where
         after : Files
         after = changed_at (with_name (changed_at (files_in state volume) n (more_links memory.clock)) d name (Some n)) d (touched_inode memory.clock)
@@ -404,10 +403,10 @@ module _ (T : Types) (state state' : StoreState) (volume : Volume) (n d : ℕ) (
     pub said : IsOpen T state' later × (linked (files_in state volume) memory.clock n d name ≡ Ok (files_in state' later))
     said = (still_open, linked_files)
 
-pub linked_so : (T : Types) (state state' : StoreState) (volume volume' : Volume) (n d : ℕ) (name : List ℕ) → IsOpen T state volume → IsLayout → All (λ b. b < 256) name →
+pub linked_so : (T : Types) (state state' : StoreState) (volume volume' : Volume) (n d : ℕ) (name : List ℕ) → IsOpen T state volume → All (λ b. b < 256) name →
     LinkDoes T state state' volume volume' n d name (Ok tt) →
     IsOpen T state' volume' × (linked (files_in state volume) volume.memory.clock n d name ≡ Ok (files_in state' volume'))
-linked_so T state state' volume volume' n d name is_open known wide (does, is) =
+linked_so T state state' volume volume' n d name is_open wide (does, is) =
     by (link_planned state volume.tree volume.memory n d name) refl does is
   where
     by : (r : Result LinkPlan Fault) → link_planned state volume.tree volume.memory n d name ≡ r →
@@ -419,7 +418,7 @@ linked_so T state state' volume volume' n d name is_open known wide (does, is) =
         let does' = subst (λ x. Does T volume.tree.fs.number (link_plan name x) state state' (Ok tt)) p.plan_is does in
         let number_same : plan.number ≡ n = ap (λ (x : LinkPlan). x.number) p.plan_is in
         let word : ℕ = (linked_memory state' volume.tree.fs.number volume.memory d plan).last_link in
-        let whole = said T state state' volume n d name is_open known wide plan p word (carried T state state' volume n d name is_open known wide plan p does') in
+        let whole = said T state state' volume n d name is_open wide plan p word (carried T state state' volume n d name is_open wide plan p does') in
         subst (λ v. IsOpen T state' v × (linked (files_in state volume) volume.memory.clock n d name ≡ Ok (files_in state' v)))
         (sym (is ∙ ap (λ k. record volume { memory = record volume.memory { touched = with_touched (without_touched volume.memory.touched k) d (now_times volume.memory); last_link = word } }) number_same))
         whole

@@ -30,7 +30,6 @@ use Rattle.treefs_lookup.specs.declared.inodes.Found.{Found}
 use Rattle.treefs_lookup.specs.declared.sought.Sought.TheVariants.{Live}
 use Rattle.treefs.specs.Reads.{IsBucketFound}
 use Rattle.treefs.specs.declared.volume.Volume.{Volume}
-use Rattle.treefs_values.specs.KnownLayout.{IsLayout}
 use Rattle.treefs_values.specs.Names.{bucket_entries}
 use Rattle.treefs_values.specs.Volumes.{IsDirectory}
 use Rattle.treefs_values.proofs.ForCallers.{among_numbers, candidates_few, directory_is, has_of, in_leaf, live_leads, number_stands}
@@ -128,7 +127,7 @@ some_names other (Directory parent names) = names
 some_names other (File bytes) = other
 some_names other (SymbolicLink bytes) = other
 
-module _ (state : StoreState) (fs c : ℕ) (key : List ℕ) (known : IsLayout) (c_some : c ≢ 0) (d : IsDirectory (readable state fs) key c) where
+module _ (state : StoreState) (fs c : ℕ) (key : List ℕ) (c_some : c ≢ 0) (d : IsDirectory (readable state fs) key c) where
   abbrev content : ℕ → List ℕ
   content = readable state fs
 
@@ -202,7 +201,7 @@ module _ (state : StoreState) (fs c : ℕ) (key : List ℕ) (known : IsLayout) (
   }
     where
       within : (name : List ℕ) (j : ℕ) → Contains (candidates (name_hash key name)) j → j ≤ leaf_count
-      within name j has = candidates_few known.high (name_hash key name) j has
+      within name j has = candidates_few (name_hash key name) j has
 
       leads : (name : List ℕ) (n : ℕ) → number_of content key c name ≡ Some n → Contains (listed_by bs) (name, n)
       leads name n is =
@@ -223,7 +222,7 @@ module _ (state : StoreState) (fs c : ℕ) (key : List ℕ) (known : IsLayout) (
 
 -- The call
 
-module _ (T : Types) (state : StoreState) (volume : Volume) (known : IsLayout) (kept : IsKept T state volume) (n : ℕ) where
+module _ (T : Types) (state : StoreState) (volume : Volume) (kept : IsKept T state volume) (n : ℕ) where
   abbrev fs : ℕ
   fs = volume.tree.fs.number
 
@@ -237,7 +236,7 @@ module _ (T : Types) (state : StoreState) (volume : Volume) (known : IsLayout) (
   key_of_top = key_in bytes_in top
 
   answered_from : (x : Found) → directory_found bytes_in top n ≡ Ok x → (from : ℕ) (bs : List Bucket) → AreAnswered state volume.tree n from bs →
-      (c_some : x.block ≢ 0) (d : IsDirectory bytes_in key_of_top x.block) → AreBuckets state fs x.block key_of_top known c_some d from bs
+      (c_some : x.block ≢ 0) (d : IsDirectory bytes_in key_of_top x.block) → AreBuckets state fs x.block key_of_top c_some d from bs
   answered_from x is from [] are c_some d = subst (λ r. MatchResult r (λ directory. IsBucketFound state fs directory.block from (Ok None)) (λ fault. ◌≡◌ {A = Result (Option Bucket) Fault} (Ok None) (Err fault))) is are
   answered_from x is from (b ∷ bs) are c_some d = (
     subst (λ r. MatchResult r (λ directory. IsBucketFound state fs directory.block from (Ok (Some b))) (λ fault. ◌≡◌ {A = Result (Option Bucket) Fault} (Ok (Some b)) (Err fault))) is are.0,
@@ -278,7 +277,7 @@ module _ (T : Types) (state : StoreState) (volume : Volume) (known : IsLayout) (
       let c_some : x.block ≢ 0 = λ z. found.0.there (sym found.0.block ∙ z) in
       let d : IsDirectory bytes_in key_of_top x.block = subst (IsDirectory bytes_in key_of_top) (sym found.0.block)
       (kept.bytes.directories n found.0.number found.0.there (found.0.kind ∙ ap Some found.1)) in
-      let listing = listing_so state fs x.block key_of_top known c_some d bs (answered_from x one.1 0 bs are c_some d) in
+      let listing = listing_so state fs x.block key_of_top c_some d bs (answered_from x one.1 0 bs are c_some d) in
       let two = then_ok (inode_found bytes_in top n) (λ (y : Found). if_directory y y.kind) x one.1 in
       let same_x : two.0 ≡ x = linked_in two.0 x two.0.kind two.2 in
       let value = found_by state volume n 0 [] (Ok two.0) two.1 in

@@ -21,13 +21,12 @@ use Rattle.treefs_name_plans.specs.Namings.{naming_ends}
 use Rattle.treefs_name_plans.specs.declared.naming.Naming.{Naming}
 use Rattle.treefs_name_plans.specs.declared.naming.Naming.TheVariants.{Added, Replaced}
 use Rattle.treefs_values.specs.Kinds.{kinds}
-use Rattle.treefs_values.specs.KnownLayout.{IsLayout}
 use Rattle.treefs_values.specs.Values.{AreChanges, inode_with_links, led_to, links_parts}
 use Rattle.treefs_values.specs.Volumes.{IsVolume}
 use Rattle.treefs_values.specs.Ways.{block_numbered}
 use Rattle.treefs_values.proofs.ForCallers.{IsAt, IsDirectoryAt, IsEdit, IsKeptInode, IsNew, IsPlace, New, Stands, edit_is, fields_files, fields_here, fields_inode, fields_keep, fields_key, fields_numbered, links_make, placed_so, same_size, set_beside, set_directory, set_files, set_numbered, set_others, set_place, set_volume, written_twice}
 
-module _ (T : Types) (fs node inode top : ℕ) (known : IsLayout) where
+module _ (T : Types) (fs node inode top : ℕ) where
   abbrev pub IsHere : StoreState → Type 0
   IsHere s = IsAt T fs node inode top s
 
@@ -55,13 +54,13 @@ module _ (T : Types) (fs node inode top : ℕ) (known : IsLayout) where
       let was = fields_of (readable old fs (block_numbered (readable old fs) top n)) in
       let sizes = same_size was links times parent in
       record {
-        here = fields_here T fs node inode top known old new here n number there changes fine behind edit' sizes.0 sizes.1 (inode_with_links links times parent) (links_make was links times parent);
-        files = fields_files T fs node inode top known old new here n number there changes fine behind edit' sizes.0 sizes.1 (inode_with_links links times parent)
+        here = fields_here T fs node inode top old new here n number there changes fine behind edit' sizes.0 sizes.1 (inode_with_links links times parent) (links_make was links times parent);
+        files = fields_files T fs node inode top old new here n number there changes fine behind edit' sizes.0 sizes.1 (inode_with_links links times parent)
             (links_make was links times parent);
-        numbered = fields_numbered T fs node inode top known old new here n number there changes fine behind edit';
-        key = fields_key T fs node inode top known old new here n number there changes fine behind edit';
-        kept = fields_inode T fs node inode top known old new here n number there changes fine behind edit';
-        keeps = fields_keep T fs node inode top known old new here n number there changes fine behind edit';
+        numbered = fields_numbered T fs node inode top old new here n number there changes fine behind edit';
+        key = fields_key T fs node inode top old new here n number there changes fine behind edit';
+        kept = fields_inode T fs node inode top old new here n number there changes fine behind edit';
+        keeps = fields_keep T fs node inode top old new here n number there changes fine behind edit';
       }
 
   pub record IsNumberStep (old new : StoreState) (d : ℕ) (name : List ℕ) (b now : ℕ) : Type 0 where
@@ -77,12 +76,12 @@ module _ (T : Types) (fs node inode top : ℕ) (known : IsLayout) where
       store = edit.store;
       root = edit.root ∙ here.root;
       volume = subst (λ t. IsVolume node inode t (readable new fs) top) (sym edit.types) (subst (λ m. IsVolume node inode (kinds old fs) m top) (sym edit.reads)
-          (set_volume node inode top (kinds old fs) (readable old fs) here.volume known d name b o s now short behind));
+          (set_volume node inode top (kinds old fs) (readable old fs) here.volume d name b o s now short behind));
     };
-    files = ap (λ m. files_of m top) edit.reads ∙ set_files node inode top (kinds old fs) (readable old fs) here.volume known d name b o s now short behind;
-    numbered = λ m. ap (λ x. block_numbered x top m) edit.reads ∙ set_numbered node inode top (kinds old fs) (readable old fs) here.volume known d name b o s now short behind m;
+    files = ap (λ m. files_of m top) edit.reads ∙ set_files node inode top (kinds old fs) (readable old fs) here.volume d name b o s now short behind;
+    numbered = λ m. ap (λ x. block_numbered x top m) edit.reads ∙ set_numbered node inode top (kinds old fs) (readable old fs) here.volume d name b o s now short behind m;
     others = λ d' name' b' o' s' ne. subst (λ x. Stands x top d' name' b' o') (sym edit.reads)
-        (set_others node inode top (kinds old fs) (readable old fs) here.volume known d name b o s now short behind d' name' b' o' s' ne);
+        (set_others node inode top (kinds old fs) (readable old fs) here.volume d name b o s now short behind d' name' b' o' s' ne);
   }
 
   -- What was replaced gets a link fewer
@@ -145,10 +144,10 @@ module _ (T : Types) (fs node inode top : ℕ) (known : IsLayout) where
       let some : 0 < 2 ^ 32 = omega arith in
       let own : ℕ = block_numbered content top d in
       let ended : ℕ → List ℕ = written (number_act b o 0 None) content in
-      let v' = set_volume node inode top (kinds old fs) content v known d name b o s 0 some None in
-      let dir' = set_directory node inode top (kinds old fs) content v known d name b o s 0 some None key (subst (λ x. IsDirectoryAt content top d x key) (sym dir.block) dir) in
-      let place' = set_place node inode top (kinds old fs) content v known d name b o s 0 some None key name' b' o' (subst (λ x. IsPlace content key x name' b' o') (sym dir.block) place) in
-      let placed = placed_so node inode top (kinds old fs) ended v' known d own key dir' name' n short named range long None b' o' place' in
+      let v' = set_volume node inode top (kinds old fs) content v d name b o s 0 some None in
+      let dir' = set_directory node inode top (kinds old fs) content v d name b o s 0 some None key (subst (λ x. IsDirectoryAt content top d x key) (sym dir.block) dir) in
+      let place' = set_place node inode top (kinds old fs) content v d name b o s 0 some None key name' b' o' (subst (λ x. IsPlace content key x name' b' o') (sym dir.block) place) in
+      let placed = placed_so node inode top (kinds old fs) ended v' d own key dir' name' n short named range long None b' o' place' in
       let reads : readable new fs ≡ written (record_act b' o' e None) ended =
       edit.reads ∙ (written_twice content b (one_patch o (to_le_bytes w32 0)) (one_patch o' (entry_bytes e)) behind None None
       ∙ ap (λ x. written (record_act x o' e None) ended) (sym same)) in (
@@ -158,7 +157,7 @@ module _ (T : Types) (fs node inode top : ℕ) (known : IsLayout) where
           volume = subst (λ t. IsVolume node inode t (readable new fs) top) (sym edit.types) (subst (λ m. IsVolume node inode (kinds old fs) m top) (sym reads) placed.0);
         },
         ap (λ m. files_of m top) reads
-            ∙ (placed.1 ∙ ap (λ f. with_name f d name' (led_to n)) (set_files node inode top (kinds old fs) content v known d name b o s 0 some None)),
+            ∙ (placed.1 ∙ ap (λ f. with_name f d name' (led_to n)) (set_files node inode top (kinds old fs) content v d name b o s 0 some None)),
       )
 
   pub both_set : (old new : StoreState) → IsHere old → (d : ℕ) (name : List ℕ) (b o : ℕ) → Stands (readable old fs) top d name b o → (name' : List ℕ) (n : ℕ) → n < 2 ^ 32 →
@@ -170,8 +169,8 @@ module _ (T : Types) (fs node inode top : ℕ) (known : IsLayout) where
       let v = here.volume in
       let some : 0 < 2 ^ 32 = omega arith in
       let ended : ℕ → List ℕ = written (number_act b o 0 None) content in
-      let v' = set_volume node inode top (kinds old fs) content v known d name b o s 0 some None in
-      let s'' = set_beside node inode top (kinds old fs) content v known d name b o s 0 some None name' b' o' s' in
+      let v' = set_volume node inode top (kinds old fs) content v d name b o s 0 some None in
+      let s'' = set_beside node inode top (kinds old fs) content v d name b o s 0 some None name' b' o' s' in
       let reads : readable new fs ≡ written (number_act b' o' n None) ended =
       edit.reads ∙ (written_twice content b (one_patch o (to_le_bytes w32 0)) (one_patch o' (to_le_bytes w32 n)) behind None None
       ∙ ap (λ x. written (number_act x o' n None) ended) (sym same)) in (
@@ -179,11 +178,11 @@ module _ (T : Types) (fs node inode top : ℕ) (known : IsLayout) where
           store = edit.store;
           root = edit.root ∙ here.root;
           volume = subst (λ t. IsVolume node inode t (readable new fs) top) (sym edit.types) (subst (λ m. IsVolume node inode (kinds old fs) m top) (sym reads)
-              (set_volume node inode top (kinds old fs) ended v' known d name' b' o' s'' n short None));
+              (set_volume node inode top (kinds old fs) ended v' d name' b' o' s'' n short None));
         },
         ap (λ m. files_of m top) reads
-            ∙ (set_files node inode top (kinds old fs) ended v' known d name' b' o' s'' n short None
-            ∙ ap (λ f. with_name f d name' (led_to n)) (set_files node inode top (kinds old fs) content v known d name b o s 0 some None)),
-        (λ m. ap (λ x. block_numbered x top m) reads ∙ (set_numbered node inode top (kinds old fs) ended v' known d name' b' o' s'' n short None m
-            ∙ set_numbered node inode top (kinds old fs) content v known d name b o s 0 some None m)),
+            ∙ (set_files node inode top (kinds old fs) ended v' d name' b' o' s'' n short None
+            ∙ ap (λ f. with_name f d name' (led_to n)) (set_files node inode top (kinds old fs) content v d name b o s 0 some None)),
+        (λ m. ap (λ x. block_numbered x top m) reads ∙ (set_numbered node inode top (kinds old fs) ended v' d name' b' o' s'' n short None m
+            ∙ set_numbered node inode top (kinds old fs) content v d name b o s 0 some None m)),
       )

@@ -46,7 +46,6 @@ use Rattle.treefs_name_plans.specs.declared.rename_plan.Moving.TheVariants.{Apar
 use Rattle.treefs_name_plans.specs.declared.rename_plan.RenamePlan.{RenamePlan}
 use Rattle.treefs.specs.declared.volume.Volume.{Volume}
 use Rattle.treefs_values.specs.Kinds.{kinds}
-use Rattle.treefs_values.specs.KnownLayout.{IsLayout}
 use Rattle.treefs_values.specs.Values.{AreChanges, inode_with_links, led_to, links_parts}
 use Rattle.treefs_values.specs.Ways.{IsWay, block_numbered}
 use Rattle.treefs_values.proofs.ForCallers.{AreBegun, AreNew, IsAlike, IsDirectoryAt, IsEntry, IsFound, IsNew, IsPlace, New, Stands, begun_so, blocks_in, candidates_few, directory_is, directory_kept, directory_stays, edit_is, entry_is, found_inode, new_kept, ran_parts, same_bucket, stands_alike, stands_found, stands_other, stands_there}
@@ -79,7 +78,7 @@ links_fine links times parent short fit low = All-cons AreChanges (Links links �
     by None low = All-nil AreChanges
     by (Some p) low = All-cons AreChanges (Parent p ∷ []) [] (refl, All-cons IsInRange (Parent p) [] (low p refl) (All-nil IsInRange)) (All-nil AreChanges)
 
-module _ (T : Types) (state state' : StoreState) (volume : Volume) (d : ℕ) (name : List ℕ) (to : ℕ) (new : List ℕ) (is_open : IsOpen T state volume) (known : IsLayout)
+module _ (T : Types) (state state' : StoreState) (volume : Volume) (d : ℕ) (name : List ℕ) (to : ℕ) (new : List ℕ) (is_open : IsOpen T state volume)
     (wide : All (λ b. b < 256) new) (moved : Moved) (m : IsMoved state volume d name to new moved) (not_d : moved.old.slot.number ≢ d) (not_to : moved.old.slot.number ≢ to) where
   abbrev fs : ℕ
   fs = volume.tree.fs.number
@@ -115,13 +114,13 @@ module _ (T : Types) (state state' : StoreState) (volume : Volume) (d : ℕ) (na
   c = m.into.block
 
   abbrev Here : StoreState → Type 0
-  Here s = IsHere T fs node inode top known s
+  Here s = IsHere T fs node inode top s
 
   abbrev now_at : StoreState → ℕ → ℕ
-  now_at s k = at T fs node inode top known s k
+  now_at s k = at T fs node inode top s k
 
   abbrev pub files_then : StoreState → Files
-  files_then s = files_at T fs node inode top known s
+  files_then s = files_at T fs node inode top s
 
   kept : IsKept T state volume
   kept = is_open.kept
@@ -139,7 +138,7 @@ module _ (T : Types) (state state' : StoreState) (volume : Volume) (d : ℕ) (na
   i = found_inode content top n x found_both.1
 
   stands : (s : Stands content top d name slot.block slot.offset) × (is_live s.record_of.entry ≡ true)
-  stands = stands_found content top d name slot known found_both.0
+  stands = stands_found content top d name slot found_both.0
 
   n_short : n < 2 ^ 32
   n_short = number_few content top n i.number i.there
@@ -195,8 +194,8 @@ module _ (T : Types) (state state' : StoreState) (volume : Volume) (d : ℕ) (na
   renamed_by files = with_name (with_name files d name None) to new (Some n)
 
   abbrev pub moved_by : Naming → Moving → Files → Files
-  moved_by naming (Together times) files = after_ends T fs node inode top known naming (renamed_by files)
-  moved_by naming (Apart pair) files = after_ends T fs node inode top known naming
+  moved_by naming (Together times) files = after_ends T fs node inode top naming (renamed_by files)
+  moved_by naming (Apart pair) files = after_ends T fs node inode top naming
       (changed_at (with_name (with_name (changed_at files n more_inode) to new (Some n)) d name None) n less_inode)
 
   abbrev pub IsMovedTo : Naming → Moving → StoreState → Type 0
@@ -209,10 +208,10 @@ module _ (T : Types) (state state' : StoreState) (volume : Volume) (d : ℕ) (na
 
   module _ (addition : Addition) (free : IsFreeName content top to new c) (addition_so : addition_in state volume.tree to c new ≡ Ok addition) where
     dir : IsDirectoryAt content top to c key
-    dir = directory_here T state volume to new kept known c free
+    dir = directory_here T state volume to new kept c free
 
     few_of : (j : ℕ) → Contains (candidates (name_hash key new)) j → j ≤ leaf_count
-    few_of j has = candidates_few known.high (name_hash key new) j has
+    few_of j has = candidates_few (name_hash key new) j has
 
     placed : IsAddition content key node c new addition
     placed = addition_is state volume.tree to c new dir.there few_of free addition addition_so
@@ -221,19 +220,19 @@ module _ (T : Types) (state state' : StoreState) (volume : Volume) (d : ℕ) (na
     entry = record { number = n; name = new }
 
     abbrev Prepared : List Act → StoreState → StoreState → Type 0
-    Prepared rest old s = IsPrepared T fs node inode top is_open.few is_open.tree known state to c key new free.named wide (name_long new free.named) few_of n n_short addition rest old s
+    Prepared rest old s = IsPrepared T fs node inode top is_open.few is_open.tree state to c key new free.named wide (name_long new free.named) few_of n n_short addition rest old s
 
     prepared : (rest : List Act) (old s : StoreState) → Here old → IsDirectoryAt (readable old fs) top to c key → IsAlike content (readable old fs) c →
         ((l : ℕ) (os : List ℕ) → IsWay os l → block_at (readable old fs) c os ≡ block_at content c os) → Ran T fs (rewriting addition ++ rest) old s (Ok tt) → Prepared rest old s
     prepared rest old s there dir' alike ways ran =
-        prepared_so T fs node inode top is_open.few is_open.tree known state to c key new free.named wide (name_long new free.named) few_of n n_short addition rest old s there dir'
+        prepared_so T fs node inode top is_open.few is_open.tree state to c key new free.named wide (name_long new free.named) few_of n n_short addition rest old s there dir'
         (record { alike = alike; ways = ways }) placed ran
 
     -- in one block
 
     in_block : (block k : ℕ) → k ≤ leaf_count → block ≡ bucket_block content c k → block ≡ slot.block → d ≡ to
     in_block block k few is same =
-        (same_bucket node inode top (kinds state fs) content kept.bytes known d name slot.block slot.offset stands.0 to k dir.number few
+        (same_bucket node inode top (kinds state fs) content kept.bytes d name slot.block slot.offset stands.0 to k dir.number few
         (sym same ∙ (is ∙ ap (λ y. bucket_block content y k) (sym dir.block)))).0
 
     placed_in : (block offset : ℕ) → IsPlace content key c new block offset → block ≡ slot.block → d ≡ to
@@ -253,7 +252,7 @@ module _ (T : Types) (state state' : StoreState) (volume : Volume) (d : ℕ) (na
           | inl none ↦ absurd none
           | inr r ↦
               let edit = edit_is T fs act q.middle r.1 r.0 q.prepared.store refl r.2 in
-              let both = both_made T fs node inode top known q.middle r.1 q.prepared to c key q.dir name slot.block (old_offset slot (Added addition)) s new n n_short free.named wide
+              let both = both_made T fs node inode top q.middle r.1 q.prepared to c key q.dir name slot.block (old_offset slot (Added addition)) s new n n_short free.named wide
               (name_long new free.named) block offset (place_of state' (act ∷ []) q) block_is (Some behind) edit in
               subst (λ y. Here y × (files_then y ≡ renamed_by (files_then state))) (sym r.3.1) (
                 both.0,
@@ -274,8 +273,8 @@ module _ (T : Types) (state state' : StoreState) (volume : Volume) (d : ℕ) (na
     elsewhere (Behind block offset) s v b o st zs news outside same = eqb-false block b outside (sym same)
     elsewhere (Rewritten old) s v b o st zs news outside same = eqb-false old.block b outside (sym same)
     elsewhere (Made made) s v b o st zs news outside same =
-        not_at b s (stands_there node inode top (kinds s fs) (readable s fs) v.volume known d name b o st) zs
-        (λ z is. stands_other node inode top (kinds s fs) (readable s fs) v.volume known d name b o st z is) news (length (blocks_in zs) - 1) same
+        not_at b s (stands_there node inode top (kinds s fs) (readable s fs) v.volume d name b o st) zs
+        (λ z is. stands_other node inode top (kinds s fs) (readable s fs) v.volume d name b o st z is) news (length (blocks_in zs) - 1) same
 
     abbrev apart_acts_of : ℕ → ℕ → List ℕ → List Act
     apart_acts_of first behind begun =
@@ -305,20 +304,20 @@ module _ (T : Types) (state state' : StoreState) (volume : Volume) (d : ℕ) (na
           | inr r ↦
               let s2 : StoreState = r.1 in
               let edit = edit_is T fs more q.middle s2 r.0 q.prepared.store refl r.2 in
-              let step = links_step T fs node inode top known q.middle s2 q.prepared n x.block i.number at_q x_some (links + 1) (Some newest_now) parent fine_more (Some first) edit in
+              let step = links_step T fs node inode top q.middle s2 q.prepared n x.block i.number at_q x_some (links + 1) (Some newest_now) parent fine_more (Some first) edit in
               let st2 = stands_alike (readable q.middle fs) (readable s2 fs) top d name slot.block slot.offset s1 (step.kept d (λ same. not_d (sym same)) s1.number s1.there) in
               let to_there : now_at q.middle to ≢ 0 = λ z. q.dir.there (sym q.dir.block ∙ z) in
               let stays2 = directory_kept (readable q.middle fs) (readable s2 fs) top to c key step.key (step.kept to (λ same. not_to (sym same)) q.dir.number to_there) q.dir in
-              let ready = ready_stays T fs node inode top is_open.few is_open.tree known state to c key new free.named wide (name_long new free.named) few_of n n_short q.middle s2 stays2.1 stays2.2
+              let ready = ready_stays T fs node inode top is_open.few is_open.tree state to c key new free.named wide (name_long new free.named) few_of n n_short q.middle s2 stays2.1 stays2.2
               addition q.ready in
               let zs_new = new_kept node inode top (kinds b0 fs) (kinds s2 fs) (readable b0 fs) (readable s2 fs) (λ z. Unit {0}) zs (λ k y lt. tt) (λ z any is. step.keeps z (q.keeps z is)) b.news in
               let rp = ran_parts T fs (addition_acts addition (blocks_in zs) entry x.block) tail s2 state' r.3 in
-              let done = addition_made T fs node inode top is_open.few is_open.tree known state to c key new free.named wide (name_long new free.named) few_of n n_short addition s2 rp.0 x.block zs
+              let done = addition_made T fs node inode top is_open.few is_open.tree state to c key new free.named wide (name_long new free.named) few_of n n_short addition s2 rp.0 x.block zs
               step.here stays2.0 ready b.of zs_new rp.1 in
               let st3 = done.3 d name slot.block slot.offset st2 (elsewhere addition s2 step.here slot.block slot.offset st2 zs zs_new outside) in
               let at_s2 : now_at s2 n ≡ x.block = step.numbered n ∙ at_q in
               let at_s3 : now_at rp.0 n ≡ x.block = done.2 n i.number (λ z. x_some (sym at_s2 ∙ z)) ∙ at_s2 in
-              let last = apart_ends T fs node inode top known (Added addition) rp.0 state' done.0 tt d name slot.block slot.offset st3 n x.block i.number at_s3 x_some links (Some newest_now) fine_less
+              let last = apart_ends T fs node inode top (Added addition) rp.0 state' done.0 tt d name slot.block slot.offset st3 n x.block i.number at_s3 x_some links (Some newest_now) fine_less
               (Some behind) rp.2 in
               let files : files_then rp.0 ≡ with_name (changed_at (files_then state) n more_inode) to new (Some n) =
               done.1 ∙ ((λ j. with_name (files_then s2) to new (lead j)) ∙ ap (λ f. with_name f to new (Some n)) (step.files ∙ ap (λ f. changed_at f n more_inode) (q.files ∙ b.files))) in
@@ -338,46 +337,46 @@ module _ (T : Types) (state state' : StoreState) (volume : Volume) (d : ℕ) (na
     i' = found_inode content top slot'.number r.ended.inode found_new.1
 
     stands' : Stands content top to new slot'.block slot'.offset
-    stands' = (stands_found content top to new slot' known found_new.0).0
+    stands' = (stands_found content top to new slot' found_new.0).0
 
     abbrev fewer : NameEnd
     fewer = name_end memory r.ended
 
     fit' : AreTimes (times_of r.ended.inode.fields)
-    fit' = fit_of T state state' volume known kept to new r.ended found_new.0 found_new.1 None
+    fit' = fit_of T state state' volume kept to new r.ended found_new.0 found_new.1 None
 
-    may : MayEnd T fs node inode top known (Replaced fewer) state
+    may : MayEnd T fs node inode top (Replaced fewer) state
     may = (
       i'.number,
       sym i'.block,
       (λ z. i'.there (sym i'.block ∙ z)),
       links_are_changes memory kept.session slot'.number to (times_of r.ended.inode.fields) fit' (nat_le r.ended.inode.fields.links 1) (r.ended.inode.fields.links - 1)
-          (short_of T state state' volume known kept to new r.ended found_new.0 found_new.1 None),
+          (short_of T state state' volume kept to new r.ended found_new.0 found_new.1 None),
     )
 
     abbrev both : Act
     both = patch_act slot.block (one_patch slot.offset (to_le_bytes w32 0) ++ one_patch slot'.offset (to_le_bytes w32 n)) (Some x.block)
 
     together_replaced : slot'.block ≡ slot.block → Ran T fs (both ∷ naming_ends (Replaced fewer)) state state' (Ok tt) →
-        Here state' × (files_then state' ≡ after_ends T fs node inode top known (Replaced fewer) (renamed_by (files_then state)))
+        Here state' × (files_then state' ≡ after_ends T fs node inode top (Replaced fewer) (renamed_by (files_then state)))
     together_replaced block_is ran = elim ran [
       | inl none ↦ absurd none
       | inr a ↦
           let edit = edit_is T fs both state a.1 a.0 here.store refl a.2 in
-          let same : d ≡ to = (same_bucket node inode top (kinds state fs) content kept.bytes known d name slot.block slot.offset stands.0 to stands'.bucket stands'.number stands'.few
+          let same : d ≡ to = (same_bucket node inode top (kinds state fs) content kept.bytes d name slot.block slot.offset stands.0 to stands'.bucket stands'.number stands'.few
           (sym block_is ∙ stands'.block_is)).0 in
           let own = subst (λ y. Stands content top y name slot.block slot.offset) same stands.0 in
-          let one = both_set T fs node inode top known state a.1 here to name slot.block slot.offset own new n n_short slot'.block slot'.offset stands' block_is (Some x.block) edit in
+          let one = both_set T fs node inode top state a.1 here to name slot.block slot.offset own new n n_short slot'.block slot'.offset stands' block_is (Some x.block) edit in
           let files : files_then a.1 ≡ renamed_by (files_then state) =
           one.1 ∙ ((λ j. with_name (with_name (files_then state) to name None) to new (lead j)) ∙ ap (λ y. with_name (with_name (files_then state) y name None) to new (Some n)) (sym same)) in
-          let last = ends_step T fs node inode top known (Replaced fewer) a.1 state' one.0 (still_ends T fs node inode top known (Replaced fewer) state a.1 one.2 may) a.3 in
-          (last.0, last.1 ∙ ap (after_ends T fs node inode top known (Replaced fewer)) files)
+          let last = ends_step T fs node inode top (Replaced fewer) a.1 state' one.0 (still_ends T fs node inode top (Replaced fewer) state a.1 one.2 may) a.3 in
+          (last.0, last.1 ∙ ap (after_ends T fs node inode top (Replaced fewer)) files)
     ]
 
     apart_replaced : (first behind : ℕ) → slot'.block ≢ slot.block → links + 1 < 2 ^ 32 →
         Ran T fs (links_act x.block (links + 1) (Some newest_now) parent (Some first) ∷ number_act slot'.block slot'.offset n (Some x.block)
         ∷ number_act slot.block slot.offset 0 (Some behind) ∷ links_act x.block links (Some newest_now) None (Some slot.block) ∷ naming_ends (Replaced fewer)) state state' (Ok tt) →
-        Here state' × (files_then state' ≡ after_ends T fs node inode top known (Replaced fewer)
+        Here state' × (files_then state' ≡ after_ends T fs node inode top (Replaced fewer)
         (changed_at (with_name (with_name (changed_at (files_then state) n more_inode) to new (Some n)) d name None) n less_inode))
     apart_replaced first behind unlike short ran = elim ran [
       | inl none ↦ absurd none
@@ -387,19 +386,19 @@ module _ (T : Types) (state state' : StoreState) (volume : Volume) (d : ℕ) (na
             let fine_more = links_fine (links + 1) newest_now parent short newest_fits parent_short in
             let fine_less = links_fine links newest_now None whole_links newest_fits (λ p none. absurd (cc none)) in
             let edit = edit_is T fs (links_act x.block (links + 1) (Some newest_now) parent (Some first)) state a.1 a.0 here.store refl a.2 in
-            let one = links_step T fs node inode top known state a.1 here n x.block i.number (sym i.block) x_some (links + 1) (Some newest_now) parent fine_more (Some first) edit in
+            let one = links_step T fs node inode top state a.1 here n x.block i.number (sym i.block) x_some (links + 1) (Some newest_now) parent fine_more (Some first) edit in
             let old1 = stands_alike content (readable a.1 fs) top d name slot.block slot.offset stands.0 (one.kept d (λ same. not_d (sym same)) e.number e.there) in
             let new1 = stands_alike content (readable a.1 fs) top to new slot'.block slot'.offset stands' (one.kept to (λ same. not_to (sym same)) stands'.number stands'.there) in
             let edit' = edit_is T fs (number_act slot'.block slot'.offset n (Some x.block)) a.1 b.1 b.0 one.here.store refl b.2 in
-            let two = number_step T fs node inode top known a.1 b.1 one.here to new slot'.block slot'.offset new1 n n_short (Some x.block) edit' in
+            let two = number_step T fs node inode top a.1 b.1 one.here to new slot'.block slot'.offset new1 n n_short (Some x.block) edit' in
             let old2 = two.others d name slot.block slot.offset old1 (λ same. unlike (sym same)) in
             let at_b : now_at b.1 n ≡ x.block = two.numbered n ∙ (one.numbered n ∙ sym i.block) in
-            let may' = still_ends T fs node inode top known (Replaced fewer) a.1 b.1 two.numbered (still_ends T fs node inode top known (Replaced fewer) state a.1 one.numbered may) in
-            let last = apart_ends T fs node inode top known (Replaced fewer) b.1 state' two.here may' d name slot.block slot.offset old2 n x.block i.number at_b x_some links (Some newest_now) fine_less
+            let may' = still_ends T fs node inode top (Replaced fewer) a.1 b.1 two.numbered (still_ends T fs node inode top (Replaced fewer) state a.1 one.numbered may) in
+            let last = apart_ends T fs node inode top (Replaced fewer) b.1 state' two.here may' d name slot.block slot.offset old2 n x.block i.number at_b x_some links (Some newest_now) fine_less
             (Some behind) b.3 in
             let files : files_then b.1 ≡ with_name (changed_at (files_then state) n more_inode) to new (Some n) =
             two.files ∙ ((λ j. with_name (files_then a.1) to new (lead j)) ∙ ap (λ f. with_name f to new (Some n)) one.files) in
-            (last.0, last.1 ∙ ap (λ f. after_ends T fs node inode top known (Replaced fewer) (changed_at (with_name f d name None) n less_inode)) files)
+            (last.0, last.1 ∙ ap (λ f. after_ends T fs node inode top (Replaced fewer) (changed_at (with_name f d name None) n less_inode)) files)
       ]
     ]
 
@@ -452,7 +451,7 @@ module _ (T : Types) (state state' : StoreState) (volume : Volume) (d : ℕ) (na
         | inl none ↦ absurd none
         | inr r ↦
             let b = begun_so T fs node inode top is_open.few is_open.tree (addition_starts addition) [] r.0 state r.1
-            (fine_addition T fs node inode top is_open.few is_open.tree known kept.bytes.types.0 kept.bytes.some_types is_open.short content key c new addition (placed addition free so)) here r.2 in
+            (fine_addition T fs node inode top is_open.few is_open.tree kept.bytes.types.0 kept.bytes.some_types is_open.short content key c new addition (placed addition free so)) here r.2 in
             let between = links_between state volume.tree moved to (one_more memory n x) in
             let behind : ℕ = naming_block (Added addition) r.0 in
             let front : List Act = addition_acts addition r.0 (record { number = n; name = new }) x.block in
@@ -497,7 +496,7 @@ module _ (T : Types) (state state' : StoreState) (volume : Volume) (d : ℕ) (na
   same_place (Added (Made made)) named inside = absurd (cc inside)
   same_place (Replaced end) r inside =
       let block_is : r.ended.slot.block ≡ slot.block = sym (ap (λ (y : NameEnd). y.block) r.end_is) ∙ eqb-true end.block slot.block inside in
-      (same_bucket node inode top (kinds state fs) content kept.bytes known d name slot.block slot.offset stands.0 to (stands' end r).bucket (stands' end r).number (stands' end r).few
+      (same_bucket node inode top (kinds state fs) content kept.bytes d name slot.block slot.offset stands.0 to (stands' end r).bucket (stands' end r).number (stands' end r).few
       (sym block_is ∙ (stands' end r).block_is)).0
 
   pub stored : (naming : Naming) → IsNaming state volume d name to new moved m naming → (moving : Moving) → IsMoving state volume d name to new moved m naming moving →

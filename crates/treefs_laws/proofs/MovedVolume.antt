@@ -40,7 +40,6 @@ use Rattle.treefs_name_plans.specs.declared.rename_plan.RenamePlan.{RenamePlan}
 use Rattle.treefs.specs.Remembered.{named_touched, now_times, written_times}
 use Rattle.treefs.specs.Renaming.{RenameDoes, moving_touched, renamed_memory}
 use Rattle.treefs.specs.declared.volume.Volume.{Volume}
-use Rattle.treefs_values.specs.KnownLayout.{IsLayout}
 use Rattle.treefs_values.specs.Values.{found_value, inode_with_links}
 use Rattle.treefs_values.specs.Ways.{block_numbered}
 use Rattle.treefs_values.proofs.ForCallers.{IsFound, directory_is, found_inode, inodes_found}
@@ -103,7 +102,7 @@ abbrev some_names : Names → Content → Names
 some_names other (Directory parent names) = names
 some_names other content = other
 
-module _ (T : Types) (state state' : StoreState) (volume : Volume) (d : ℕ) (name : List ℕ) (to : ℕ) (new : List ℕ) (is_open : IsOpen T state volume) (known : IsLayout)
+module _ (T : Types) (state state' : StoreState) (volume : Volume) (d : ℕ) (name : List ℕ) (to : ℕ) (new : List ℕ) (is_open : IsOpen T state volume)
     (wide : All (λ b. b < 256) new) (place : IsOfDirectory (files_in state volume) d name) where
   abbrev fs : ℕ
   fs = volume.tree.fs.number
@@ -236,7 +235,7 @@ module _ (T : Types) (state state' : StoreState) (volume : Volume) (d : ℕ) (na
       newest = newest_times memory n (times_of x.fields)
 
       fits : AreTimes newest
-      fits = newest_fits T state state' volume d name to new is_open known wide moved m not_d not_to
+      fits = newest_fits T state state' volume d name to new is_open wide moved m not_d not_to
 
       first_once : (moving : Moving) → AreTouchedOnce (moving_touched touched n moving)
       first_once (Together times) = once_touched n times touched kept.session.once
@@ -251,9 +250,9 @@ module _ (T : Types) (state state' : StoreState) (volume : Volume) (d : ℕ) (na
       -- The inode
 
       abbrev inner : Moving → Files
-      inner (Together times) = renamed_by T state state' volume d name to new is_open known wide moved m not_d not_to files
-      inner (Apart pair) = changed_at (with_name (with_name (changed_at files n (more_inode T state state' volume d name to new is_open known wide moved m not_d not_to)) to new (Some n)) d name None) n
-          (less_inode T state state' volume d name to new is_open known wide moved m not_d not_to)
+      inner (Together times) = renamed_by T state state' volume d name to new is_open wide moved m not_d not_to files
+      inner (Apart pair) = changed_at (with_name (with_name (changed_at files n (more_inode T state state' volume d name to new is_open wide moved m not_d not_to)) to new (Some n)) d name None) n
+          (less_inode T state state' volume d name to new is_open wide moved m not_d not_to)
 
       abbrev renamed_seen : Files
       renamed_seen = with_name (with_name seen d name None) to new (Some n)
@@ -270,7 +269,7 @@ module _ (T : Types) (state state' : StoreState) (volume : Volume) (d : ℕ) (na
       inner_seen : (moving : Moving) → IsMoving state volume d name to new moved m naming moving →
           seen_files (moving_touched touched n moving) (inner moving) ≡ changed_at renamed_seen n (moved_inode clock to)
       inner_seen (Together times) linked =
-          let same : d ≡ to = same_place T state state' volume d name to new is_open known wide moved m not_d not_to naming named linked.0 in
+          let same : d ≡ to = same_place T state state' volume d name to new is_open wide moved m not_d not_to naming named linked.0 in
           ap (λ t. seen_files (with_touched touched n t) (inner (Together times))) linked.1
           ∙ together_seen touched clock kept.session.once files n d to name new value there not_d not_to
           (stands_still content key x.block x.fields.parent to x.kind (λ one. parent_so one ∙ same))
@@ -300,8 +299,8 @@ module _ (T : Types) (state state' : StoreState) (volume : Volume) (d : ℕ) (na
         keeps_old : (moving : Moving) (z : Inode) → inner moving k ≡ Some z → (z.links ≡ y.fields.links) × (times_in z ≡ times_of y.fields)
         keeps_old (Together times) z is = by_names files d to name new None (Some n) refl z is
         keeps_old (Apart pair) z is =
-            let more = more_inode T state state' volume d name to new is_open known wide moved m not_d not_to in
-            let less = less_inode T state state' volume d name to new is_open known wide moved m not_d not_to in
+            let more = more_inode T state state' volume d name to new is_open wide moved m not_d not_to in
+            let less = less_inode T state state' volume d name to new is_open wide moved m not_d not_to in
             by_names (changed_at files n more) to d new name (Some n) None (changed_other files n more k other) z
             (sym (changed_other (with_name (with_name (changed_at files n more) to new (Some n)) d name None) n less k other) ∙ is)
 
@@ -349,8 +348,8 @@ module _ (T : Types) (state state' : StoreState) (volume : Volume) (d : ℕ) (na
 
       -- The volume
 
-      module _ (word : ℕ) (orphans : List ℕ) (done : IsMovedTo T state state' volume d name to new is_open known wide moved m not_d not_to naming moving state') (gone : Option ℕ)
-          (whole_inner : seen_files (Left naming) (files_then T state state' volume d name to new is_open known wide moved m not_d not_to state')
+      module _ (word : ℕ) (orphans : List ℕ) (done : IsMovedTo T state state' volume d name to new is_open wide moved m not_d not_to naming moving state') (gone : Option ℕ)
+          (whole_inner : seen_files (Left naming) (files_then T state state' volume d name to new is_open wide moved m not_d not_to state')
           ≡ lost (changed_at renamed_seen n (moved_inode clock to)) clock gone) where
         abbrev later : Volume
         later = record volume { memory = record memory { touched = then_touched; last_dir = word; orphans = orphans } }
@@ -426,7 +425,7 @@ module _ (T : Types) (state state' : StoreState) (volume : Volume) (d : ℕ) (na
 
     inner_is : (naming : Naming) (named : IsNaming state volume d name to new moved m naming) (moving : Moving) (linked : IsMoving state volume d name to new moved m naming moving)
         (unlike : leads_to (slot_named content key m.into.block new) moved.old.slot.number ≡ false) →
-        moved_by T state state' volume d name to new is_open known wide moved m not_d not_to naming moving files ≡ after_ends T fs volume.tree.node_type volume.tree.inode_type top known naming (inner naming named moving linked unlike moving)
+        moved_by T state state' volume d name to new is_open wide moved m not_d not_to naming moving files ≡ after_ends T fs volume.tree.node_type volume.tree.inode_type top naming (inner naming named moving linked unlike moving)
     inner_is naming named (Together times) linked unlike = refl
     inner_is naming named (Apart pair) linked unlike = refl
 
@@ -441,7 +440,7 @@ module _ (T : Types) (state state' : StoreState) (volume : Volume) (d : ℕ) (na
       }
 
       added_said : (addition : Addition) (named : IsNaming state volume d name to new moved m (Added addition)) (linked : IsMoving state volume d name to new moved m (Added addition) moving) →
-          IsMovedTo T state state' volume d name to new is_open known wide moved m not_d not_to (Added addition) moving state' → Result_of (later_by (Added addition))
+          IsMovedTo T state state' volume d name to new is_open wide moved m not_d not_to (Added addition) moving state' → Result_of (later_by (Added addition))
       added_said addition named linked done =
           let naming : Naming = Added addition in
           let whole = ap (seen_files (moving_touched touched n moving)) (done.1 ∙ inner_is naming named moving linked unlike) ∙ inner_seen naming named moving linked unlike moving linked in
@@ -509,12 +508,12 @@ module _ (T : Types) (state state' : StoreState) (volume : Volume) (d : ℕ) (na
             by : (kind_of_it : Kind) → y.kind ≡ kind_of_it → names name' ≡ None
             by kind.Directory is =
                 ap (λ (z : Content). some_names (λ w. None) z name') (sym content_is ∙ (ap (λ (z : Inode). z.content) (sym same) ∙ is_one content key y.block y.fields.parent y.kind is))
-                ∙ no_names state fs y.block block_some (r.without is) name' known key
+                ∙ no_names state fs y.block block_some (r.without is) name' key
             by kind.File is = absurd (true≢false (sym is_so ∙ ap (λ q. is_directory (content_at content key y.block y.fields.parent q)) is))
             by kind.SymbolicLink is = absurd (true≢false (sym is_so ∙ ap (λ q. is_directory (content_at content key y.block y.fields.parent q)) is))
 
         replaced_said : (linked : IsMoving state volume d name to new moved m (Replaced end) moving) →
-            IsMovedTo T state state' volume d name to new is_open known wide moved m not_d not_to (Replaced end) moving state' → Result_of (later_by (Replaced end))
+            IsMovedTo T state state' volume d name to new is_open wide moved m not_d not_to (Replaced end) moving state' → Result_of (later_by (Replaced end))
         replaced_said linked done =
             let naming : Naming = Replaced end in
             let first : List Touched = moving_touched touched n moving in
@@ -538,9 +537,9 @@ module _ (T : Types) (state state' : StoreState) (volume : Volume) (d : ℕ) (na
       all_said : (naming : Naming) (named : IsNaming state volume d name to new moved m naming) → IsMoving state volume d name to new moved m naming moving →
           Does T fs (rename_plan new (planned_move moved naming moving)) state state' (Ok tt) → Result_of (later_by naming)
       all_said (Added addition) named linked does =
-          added_said addition named linked (stored T state state' volume d name to new is_open known wide moved m not_d not_to (Added addition) named moving linked does)
+          added_said addition named linked (stored T state state' volume d name to new is_open wide moved m not_d not_to (Added addition) named moving linked does)
       all_said (Replaced end) named linked does =
-          replaced_said end named linked (stored T state state' volume d name to new is_open known wide moved m not_d not_to (Replaced end) named moving linked does)
+          replaced_said end named linked (stored T state state' volume d name to new is_open wide moved m not_d not_to (Replaced end) named moving linked does)
 
   -- Nothing is done where the new name leads to the inode already
 

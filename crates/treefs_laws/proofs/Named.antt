@@ -35,13 +35,12 @@ use Rattle.treefs_name_plans.specs.declared.naming.Naming.TheVariants.{Added}
 use Rattle.treefs_lookup.specs.declared.names.Slot.{Slot}
 use Rattle.treefs_values.specs.Attached.{new_content}
 use Rattle.treefs_values.specs.Kinds.{kinds}
-use Rattle.treefs_values.specs.KnownLayout.{IsLayout}
 use Rattle.treefs_values.specs.Values.{led_to}
 use Rattle.treefs_values.specs.Ways.{IsWay, block_numbered}
 use Rattle.treefs_values.proofs.ForCallers.{AreFree, AreNew, AreOf, IsAlike, IsAt, IsBehind, IsDirectoryAt, IsEdit, IsKeptInode, IsNew, IsOther, IsPlace, New, Stands, all_front, blocks_in, bucket_same, directory_names, directory_stays, edit_is, free_stays, inodes_stay, leafed_so, made_behind, new_kept, new_parts, place_stays, placed_files, placed_here, placed_keeps, rewritten_behind, rewritten_directory, rewritten_files, rewritten_here, rewritten_inode, rewritten_keeps, rewritten_ways, rewriting_numbered, rewriting_own, rewriting_stands, same_bucket, stands_names, tabled_so}
 use Rattle.treefs_laws.proofs.NewPlanned.{IsAddition, IsToMake}
 
-module _ (T : Types) (fs node inode top : ℕ) (few : fs < 32) (tree : IsTree T node inode) (known : IsLayout) (plan : StoreState) (d c : ℕ) (key name : List ℕ)
+module _ (T : Types) (fs node inode top : ℕ) (few : fs < 32) (tree : IsTree T node inode) (plan : StoreState) (d c : ℕ) (key name : List ℕ)
     (named : IsTrue (is_name name)) (range : All (λ b. b < 256) name) (long : length name < 256)
     (few_of : (k : ℕ) → Contains (candidates (name_hash key name)) k → k ≤ leaf_count) where
   abbrev IsHere : StoreState → Type 0
@@ -75,10 +74,10 @@ module _ (T : Types) (fs node inode top : ℕ) (few : fs < 32) (tree : IsTree T 
       | inl none ↦ absurd none
       | inr r ↦
           let edit = edit_is T fs (record_act block offset entry (Some behind)) old r.1 r.0 here.store refl r.2 in
-          let keeps = placed_keeps node inode top (kinds old fs) (readable old fs) here.volume known d c key dir name n n_few named range long (Some behind) block offset place in
+          let keeps = placed_keeps node inode top (kinds old fs) (readable old fs) here.volume d c key dir name n n_few named range long (Some behind) block offset place in
           subst (IsNamed block old) (sym r.3.1) (
-            placed_here T fs node inode top known old here d c key dir r.1 name n n_few named range long (Some behind) block offset place edit,
-            placed_files T fs node inode top known old here d c key dir r.1 name n n_few named range long (Some behind) block offset place edit,
+            placed_here T fs node inode top old here d c key dir r.1 name n n_few named range long (Some behind) block offset place edit,
+            placed_files T fs node inode top old here d c key dir r.1 name n n_few named range long (Some behind) block offset place edit,
             (λ m some there. ap (λ x. block_numbered x top m) edit.reads ∙ keeps.0 m),
             (λ d' name' block' offset' s ne. subst (λ x. Stands x top d' name' block' offset') (sym edit.reads) (keeps.1 d' name' block' offset' s ne)),
           )
@@ -115,13 +114,13 @@ module _ (T : Types) (fs node inode top : ℕ) (few : fs < 32) (tree : IsTree T 
         ≡ path_acts node (reach (readable plan fs) c (steps made.leaf)).block (missing_path made.leaf (reach (readable plan fs) c (steps made.leaf)).missing) (blocks_in zs)
         ++ record_act (last_block (blocks_in zs)) 0 entry (Some behind) ∷ [] =
         (λ j. path_acts (m.node_is j) (m.owner_is j) (missing_path made.leaf (m.missing_is j)) (blocks_in zs) ++ record_act (last_block (blocks_in zs)) 0 entry (Some behind) ∷ []) in
-        let l = leafed_so T fs node inode top few tree known old plan here d c dir.number dir.there dir.block ready.2 made.leaf m.few m.free zs
+        let l = leafed_so T fs node inode top few tree old plan here d c dir.number dir.there dir.block ready.2 made.leaf m.few m.free zs
         (subst (λ starts. Of starts zs) starts_are of) news (record_act (last_block (blocks_in zs)) 0 entry (Some behind) ∷ []) new
         (subst (λ acts. Ran T fs acts old new (Ok tt)) acts_are ran) in
         let later = directory_names (readable old fs) (readable l.middle fs) top d c key l.names dir in
         let free = free_stays (readable old fs) (readable l.middle fs) key c name later.1 ready.1 in
         let b : ℕ = last_or_owner (reach (readable plan fs) c (steps made.leaf)).block (blocks_in zs) in
-        let place = made_behind T fs node inode top known l.middle l.leafed d c key later.0 name made.leaf b m.candidate long l.last l.there l.zeros_are free in
+        let place = made_behind T fs node inode top l.middle l.leafed d c key later.0 name made.leaf b m.candidate long l.last l.there l.zeros_are free in
         let done = one_record l.middle new (last_block (blocks_in zs)) 0 behind l.leafed later.0
         (inl (subst (λ x. IsBehind (readable l.middle fs) key c name x 0) (sym l.last_is) place)) l.ran in (
           done.0,
@@ -158,13 +157,13 @@ module _ (T : Types) (fs node inode top : ℕ) (few : fs < 32) (tree : IsTree T 
             let there : block_numbered (readable old fs) top d ≢ 0 = λ z. dir.there (sym dir.block ∙ z) in
             let one = subst (λ x. kind_of (fields_of (readable old fs x)).mode ≡ Some kind.Directory) (sym dir.block) dir.directory in (
               (λ m. ap (λ x. block_numbered x top m) edit.reads
-                  ∙ rewriting_numbered node inode top (kinds old fs) (readable old fs) here.volume known d dir.number there k k_few one full m),
+                  ∙ rewriting_numbered node inode top (kinds old fs) (readable old fs) here.volume d dir.number there k k_few one full m),
               (λ d' name' block' offset' s ne. subst (λ x. Stands x top d' name' block' offset') (sym edit.reads)
-                  (rewriting_stands node inode top (kinds old fs) (readable old fs) here.volume known d dir.number there k k_few one full d' name' block' offset' s ne)),
+                  (rewriting_stands node inode top (kinds old fs) (readable old fs) here.volume d dir.number there k k_few one full d' name' block' offset' s ne)),
               (λ r has live. subst (λ x. Stands x top d r.entry.name (bucket_block (readable old fs) (block_numbered (readable old fs) top d) k)
                   (bucket_start k + (length (take r.offset (bucket_of (readable old fs) (block_numbered (readable old fs) top d) k))
                   - room_without (take r.offset (bucket_of (readable old fs) (block_numbered (readable old fs) top d) k))))) (sym edit.reads)
-                  (rewriting_own node inode top (kinds old fs) (readable old fs) here.volume known d dir.number there k k_few one full r has live)),
+                  (rewriting_own node inode top (kinds old fs) (readable old fs) here.volume d dir.number there k k_few one full r has live)),
             )
 
     pub record IsPrepared (addition : Addition) (rest : List Act) (old new : StoreState) : Type 0 where
@@ -241,26 +240,26 @@ module _ (T : Types) (fs node inode top : ℕ) (few : fs < 32) (tree : IsTree T 
           (λ j. rewritten_act ((is.block_is ∙ sym block_same) j) (is.start_is j) ((is.bytes_are ∙ sym same) j)) in
           let first = edit_is T fs (rewritten_act bucket.block (old_start bucket) (drop (old_start bucket) bucket.bytes)) old r.1 r.0 here.store refl r.2 in
           let edit = subst (λ a. IsEdit T fs a old r.1) act_same first in
-          let behind = rewritten_behind T fs node inode top known old here d c key dir r.1 k k_few full edit name is.candidate fits free in
+          let behind = rewritten_behind T fs node inode top old here d c key dir r.1 k k_few full edit name is.candidate fits free in
           let rw = records_rewritten old r.1 here dir k k_few full edit in
           record {
             middle = r.1;
-            prepared = rewritten_here T fs node inode top known old here d c key dir r.1 k k_few full edit;
-            dir = rewritten_directory T fs node inode top known old here d c key dir r.1 k k_few full edit;
+            prepared = rewritten_here T fs node inode top old here d c key dir r.1 k k_few full edit;
+            dir = rewritten_directory T fs node inode top old here d c key dir r.1 k k_few full edit;
             ready = inl (subst (λ b. IsBehind (readable r.1 fs) key c name b bucket.offset) (block_same ∙ sym is.block_is)
                 (subst (λ o. IsBehind (readable r.1 fs) key c name (bucket_block (readable old fs) c k) o)
                 (ap (λ m. bucket_start k + (length m - room_without m)) same ∙ sym is.offset_is) behind));
             ran = r.3;
-            files = rewritten_files T fs node inode top known old here d c key dir r.1 k k_few full edit;
-            keeps = rewritten_keeps T fs node inode top known old here d c key dir r.1 k k_few full edit;
-            ways = rewritten_ways T fs node inode top known old here d c key dir r.1 k k_few full edit;
-            inodes = rewritten_inode T fs node inode top known old here d c key dir r.1 k k_few full edit;
+            files = rewritten_files T fs node inode top old here d c key dir r.1 k k_few full edit;
+            keeps = rewritten_keeps T fs node inode top old here d c key dir r.1 k k_few full edit;
+            ways = rewritten_ways T fs node inode top old here d c key dir r.1 k k_few full edit;
+            inodes = rewritten_inode T fs node inode top old here d c key dir r.1 k k_few full edit;
             numbered = rw.0;
             stands = λ d' name' block' offset' s apart.
                 rw.1 d' name' block' offset' s (λ e. eqb-false bucket.block block' apart (is.block_is ∙ (sym block_same ∙ sym e)));
             moved = λ slot name' s live in_it.
                 let e : bucket.block ≡ slot.block = eqb-true bucket.block slot.block in_it in
-                let own_k : s.bucket ≡ k = (same_bucket node inode top (kinds old fs) (readable old fs) here.volume known d name' slot.block slot.offset s d k dir.number k_few
+                let own_k : s.bucket ≡ k = (same_bucket node inode top (kinds old fs) (readable old fs) here.volume d name' slot.block slot.offset s d k dir.number k_few
                 (sym e ∙ (is.block_is ∙ (sym block_same ∙ ap (λ x. bucket_block (readable old fs) x k) (sym dir.block))))).1 in
                 let there = subst (λ x. Contains (records_of (bucket_of (readable old fs) x k)) s.record_of) dir.block
                 (subst (λ j. Contains (records_of (bucket_of (readable old fs) (block_numbered (readable old fs) top d) j)) s.record_of) own_k s.of) in
@@ -320,7 +319,7 @@ module _ (T : Types) (fs node inode top : ℕ) (few : fs < 32) (tree : IsTree T 
           new_kept node inode top (kinds old fs) (kinds p.middle fs) (readable old fs) (readable p.middle fs) (λ x. Unit {0}) (y ∷ (xs ++ zs)) (λ i e lt. tt) (λ x any. p.keeps x) news in
           let apart = all_front (IsOther y) xs zs news'.1 in
           let parts = new_parts node inode top (kinds p.middle fs) (readable p.middle fs) xs zs news'.2 in
-          let t = tabled_so T fs node inode top few tree known p.middle plan p.prepared (λ l os way. p.ways l os way ∙ ways l os way) n number n_within n_free fields head in_range short
+          let t = tabled_so T fs node inode top few tree p.middle plan p.prepared (λ l os way. p.ways l os way ∙ ways l os way) n number n_within n_free fields head in_range short
           size k kind_is empty xs y of_xs parts.0 news'.0 (All-weaker (IsOther y) (λ z. IsOther z y) (λ z ne same. ne (sym same)) xs apart.0) y_type y_bytes (last_acts ++ []) new p.ran in
           let stays = directory_stays (readable p.middle fs) (readable t.middle fs) top d c key t.inodes p.dir in
           let ready = ready_stays p.middle t.middle stays.1 stays.2 addition p.ready in

@@ -24,7 +24,6 @@ use Rattle.treefs_name_plans.specs.Ends.{end_acts, name_end, times_of}
 use Rattle.treefs_name_plans.specs.declared.ended.Ended.{Ended}
 use Rattle.treefs.specs.Remembered.{ended_memory, now_times, written_times}
 use Rattle.treefs.specs.declared.volume.Volume.{Volume}
-use Rattle.treefs_values.specs.KnownLayout.{IsLayout}
 use Rattle.treefs_values.specs.Kinds.{kinds}
 use Rattle.treefs_values.specs.Values.{AreChanges, found_value, inode_with_links, links_parts}
 use Rattle.treefs_values.specs.Volumes.{IsVolume}
@@ -78,7 +77,7 @@ module _ (memory : Memory) (session : IsSession memory) (n d : ℕ) (times : Tim
 
 -- The volume
 
-module _ (T : Types) (state state' : StoreState) (volume : Volume) (known : IsLayout) (kept : IsKept T state volume) (d : ℕ) (name : List ℕ) (ended : Ended)
+module _ (T : Types) (state state' : StoreState) (volume : Volume) (kept : IsKept T state volume) (d : ℕ) (name : List ℕ) (ended : Ended)
     (slot_is : entry_found (readable state volume.tree.fs.number) volume.tree.top d name ≡ Ok ended.slot)
     (inode_is : inode_found (readable state volume.tree.fs.number) volume.tree.top ended.slot.number ≡ Ok ended.inode)
     (behind : Option ℕ) where
@@ -162,7 +161,7 @@ module _ (T : Types) (state state' : StoreState) (volume : Volume) (known : IsLa
       × (files_of (all_written acts content) top
       ≡ changed_at (with_name files d name None) n (inode_with_links (fields_links - 1) (newest memory kept.session n d (times_of ended.inode.fields) fit low) None))
   made =
-      name_ended volume.tree.node_type volume.tree.inode_type top (kinds state fs) content kept.bytes known d name ended.slot slot_is ended.inode inode_is
+      name_ended volume.tree.node_type volume.tree.inode_type top (kinds state fs) content kept.bytes d name ended.slot slot_is ended.inode inode_is
       (fields_links - 1) (newest memory kept.session n d (times_of ended.inode.fields) fit low) None
       (links_are_changes memory kept.session n d (times_of ended.inode.fields) fit low (fields_links - 1) short) behind (Some ended.slot.block)
 

@@ -12,14 +12,13 @@ use Rattle.treefs_format.specs.Nodes.{node_bytes}
 use Rattle.treefs_format.specs.Templates.{IsTree}
 use Rattle.treefs_format.specs.declared.kind.Kind.{Kind}
 use Rattle.treefs_format.specs.declared.kind.Kind.TheVariants as kind
+use Rattle.treefs_format.proofs.ForCallers.{node_children, node_long}
 use Rattle.treefs_model.specs.Acts.{Act, attach_act, wait_act}
 use Rattle.treefs_model.specs.Reading.{block_at, pointed}
 use Rattle.treefs_edits.specs.Missing.{child_before, last_or_owner, node_acts, node_starts}
 use Rattle.treefs_edits.specs.Written.{all_written, written}
-use Rattle.treefs_values.specs.KnownLayout.{IsLayout}
 use Rattle.treefs_values.specs.Ways.{IsWay, block_numbered}
 use Rattle.treefs_values.proofs.ForCallers.{AreNew, AreOf, IsNew, IsOther, New, bare_node, blocks_in, onto, way_first}
-use Rattle.treefs_laws.proofs.Attaching.{AreAttached}
 use Rattle.treefs_laws.proofs.Fronts.{IsFront, same_first, same_rest}
 use Rattle.treefs_laws.proofs.LeavesAttached.{one_all, one_keeps, one_other, one_over, one_set, one_there, way_stands, way_up}
 use Rattle.treefs_laws.proofs.OverFile.{IsOver}
@@ -30,12 +29,12 @@ abbrev pub IsNext : (ℕ → Type 0) → List ℕ → ℕ → Type 0
 IsNext More [] o = More o
 IsNext More (x ∷ os) o = o ≡ x
 
-module _ (laws : AreAttached) (T : Types) (fs node inode top : ℕ) (fs_few : fs < 32) (tree : IsTree T node inode) (known : IsLayout) (n : ℕ)
+module _ (T : Types) (fs node inode top : ℕ) (fs_few : fs < 32) (tree : IsTree T node inode) (n : ℕ)
     (number : n ≢ 0) (b : ℕ) (there : b ≢ 0)
     (k : Kind) (no_directory : k ≢ kind.Directory) (content : ℕ → List ℕ) (block_is : block_numbered content top n ≡ b)
     (is_kind : kind_of (fields_of (content b)).mode ≡ Some k) (small : (fields_of (content b)).size ≤ greatest_size) (at : ℕ) (type : ℕ → ℕ) where
   abbrev Over : List ℕ → (ℕ → List ℕ) → Type 0
-  Over bytes m = IsOver node inode top known n number b there k no_directory content block_is is_kind small at type bytes m
+  Over bytes m = IsOver node inode top n number b there k no_directory content block_is is_kind small at type bytes m
 
   abbrev IsOne : (ℕ → List ℕ) → New → Type 0
   IsOne m x = IsNew node inode type m top x
@@ -95,10 +94,10 @@ module _ (laws : AreAttached) (T : Types) (fs node inode top : ℕ) (fs_few : fs
       m1 = written (attach_act h off node (x.block ∷ []) None) m
 
       said : m1 x.block ≡ node_bytes child
-      said = (one_set laws T fs node inode top fs_few tree known n number b there k no_directory content block_is is_kind small at type bytes m o l off q
+      said = (one_set T fs node inode top fs_few tree n number b there k no_directory content block_is is_kind small at type bytes m o l off q
           first.1 h h_is h_there x news.0
           as_node as_data none node).changed x.block
-          (one_other laws T fs node inode top fs_few tree known n number b there k no_directory content block_is is_kind small at type bytes m o l off q
+          (one_other T fs node inode top fs_few tree n number b there k no_directory content block_is is_kind small at type bytes m o l off q
           first.1 h h_is h_there x news.0
           as_node as_data none node x news.0 (λ is. o.volume.types.0 (sym of.0 ∙ is)))
           ∙ (news.0.bytes ∙ of.1)
@@ -107,23 +106,23 @@ module _ (laws : AreAttached) (T : Types) (fs node inode top : ℕ) (fs_few : fs
       wait_none : (rest : List Act) → all_written (wait_act x.block (child ∷ []) h ∷ rest) m1 ≡ all_written rest m1
       wait_none rest =
           waits_write m1 x.block child (sym (ap (λ l. slice_index l 0) said)) (subst (λ l. 0 < length l) (sym said)
-          (let long = known.node_long child in omega arith)) (h ∷ []) rest
+          (let long = node_long child in omega arith)) (h ∷ []) rest
 
       acts_are : all_written (node_acts node 2 h (off ∷ os) (blocks_in (x ∷ xs))) m ≡ all_written (node_acts node 2 x.block os (blocks_in xs)) m1
       acts_are = wait_none (node_acts node 2 x.block os (blocks_in xs))
 
       over1 : Over bytes m1
-      over1 = one_over laws T fs node inode top fs_few tree known n number b there k no_directory content block_is is_kind small at type bytes m o l off q
+      over1 = one_over T fs node inode top fs_few tree n number b there k no_directory content block_is is_kind small at type bytes m o l off q
           first.1 h h_is h_there x news.0
           as_node as_data none node not_leaf
 
       there1 : block_at m1 b (off ∷ q) ≡ x.block
-      there1 = one_there laws T fs node inode top fs_few tree known n number b there k no_directory content block_is is_kind small at type bytes m o l off q
+      there1 = one_there T fs node inode top fs_few tree n number b there k no_directory content block_is is_kind small at type bytes m o l off q
           first.1 h h_is h_there x news.0
           as_node as_data none node
 
       news1 : AreNew node inode type m1 top xs
-      news1 = one_all laws T fs node inode top fs_few tree known n number b there k no_directory content block_is is_kind small at type bytes m o l off q
+      news1 = one_all T fs node inode top fs_few tree n number b there k no_directory content block_is is_kind small at type bytes m o l off q
           first.1 h h_is h_there x news.0
           as_node as_data none node xs (nodes_plain o.volume.types.0 os xs of.2) news.1 news.2
 
@@ -131,7 +130,7 @@ module _ (laws : AreAttached) (T : Types) (fs node inode top : ℕ) (fs_few : fs
       zeros1 p next =
           let stands = next_stands (off ∷ q) os way p next in
           ap (λ t. if t then 0 else word_at (m1 x.block) p) (ne_eqb x.block 0 news.0.there)
-          ∙ (ap (λ l. word_at l p) said ∙ bare_node (node_bytes child) (known.node_children child) p stands.0 stands.1 stands.2)
+          ∙ (ap (λ l. word_at l p) said ∙ bare_node (node_bytes child) (node_children child) p stands.0 stands.1 stands.2)
 
       with_node : AreNodes bytes (off ∷ q) os xs x.block m1 → AreNodes bytes q (off ∷ os) (x ∷ xs) h m
       with_node later = record {
@@ -140,7 +139,7 @@ module _ (laws : AreAttached) (T : Types) (fs node inode top : ℕ) (fs_few : fs
         some = later.some;
         zero_there = λ p more. ap (λ c. pointed c (last_or_owner x.block (blocks_in xs)) p) acts_are ∙ later.zero_there p more;
         keeps = λ y is plain others. subst (λ c. IsOne c y) (sym acts_are) (later.keeps y
-            (one_keeps laws T fs node inode top fs_few tree known n number b there k no_directory content block_is is_kind small at type bytes m o l off q
+            (one_keeps T fs node inode top fs_few tree n number b there k no_directory content block_is is_kind small at type bytes m o l off q
             first.1 h h_is h_there x news.0
             as_node as_data none node y is plain (All-head (λ z. IsOther z y) x xs others)) plain (All-tail (λ z. IsOther z y) x xs others));
       }

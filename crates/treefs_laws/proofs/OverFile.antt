@@ -23,7 +23,6 @@ use Rattle.treefs_edits.specs.Written.{written}
 use Rattle.treefs_byte_plans.specs.Fields.{risen, size_changes}
 use Rattle.treefs_byte_plans.specs.Sizes.{changed_size}
 use Rattle.treefs_values.specs.Bytes.{bucket_at, byte_over, is_within, put_within, with_put}
-use Rattle.treefs_values.specs.KnownLayout.{IsLayout}
 use Rattle.treefs_values.specs.Volumes.{IsVolume}
 use Rattle.treefs_values.specs.Ways.{block_numbered}
 use Rattle.treefs_values.proofs.ForCallers.{byte_put, file_read, files_put, inode_numbered, inside, numbered_same, outside, put_in, put_new, same_listed, volume_put}
@@ -102,7 +101,7 @@ module _ (f : ℕ → ℕ) (at : ℕ) (bytes more : List ℕ) (p : ℕ) where
 
 -- A file, and its bytes from one on
 
-module _ (node inode top : ℕ) (known : IsLayout) (n : ℕ) (number : n ≢ 0) (b : ℕ) (there : b ≢ 0) (k : Kind) (no_directory : k ≢ kind.Directory)
+module _ (node inode top : ℕ) (n : ℕ) (number : n ≢ 0) (b : ℕ) (there : b ≢ 0) (k : Kind) (no_directory : k ≢ kind.Directory)
     (content : ℕ → List ℕ) (block_is : block_numbered content top n ≡ b) (is_kind : kind_of (fields_of (content b)).mode ≡ Some k)
     (small : (fields_of (content b)).size ≤ greatest_size) (at : ℕ) where
   abbrev was : Fields
@@ -168,7 +167,7 @@ module _ (node inode top : ℕ) (known : IsLayout) (n : ℕ) (number : n ≢ 0) 
     put_there z = block_there (ap (λ x. bucket_block m x (bucket_at first)) (sym o.block) ∙ z)
 
     abbrev next : ℕ → List ℕ
-    next = put_new node inode top type m o.volume known n number c_there more range some first few fits put_there behind
+    next = put_new node inode top type m o.volume n number c_there more range some first few fits put_there behind
 
     next_small : (fields_of (m c)).size ≤ greatest_size
     next_small = subst (λ g. g.size ≤ greatest_size) (sym (ap (λ x. fields_of (m x)) o.block ∙ o.fields)) small
@@ -179,13 +178,13 @@ module _ (node inode top : ℕ) (known : IsLayout) (n : ℕ) (number : n ≢ 0) 
     next_fields : fields_of (next b) ≡ fields_of (m b)
     next_fields =
         ap (λ x. fields_of (next x)) (sym o.block)
-        ∙ ((put_in node inode top type m o.volume known n number c_there more range some first few fits put_there behind).fields ∙ ap (λ x. fields_of (m x))
+        ∙ ((put_in node inode top type m o.volume n number c_there more range some first few fits put_there behind).fields ∙ ap (λ x. fields_of (m x))
         o.block)
 
     next_byte : (p : ℕ) → p < greatest_size → byte_of next b p ≡ byte_over first more (byte_of m b) p
     next_byte p low =
         ap (λ x. byte_of next x p) (sym o.block)
-        ∙ (byte_put node inode top type m o.volume known n number c_there more range some first few fits put_there behind p (few_buckets p low)
+        ∙ (byte_put node inode top type m o.volume n number c_there more range some first few fits put_there behind p (few_buckets p low)
         ∙ ap (λ x. byte_over first more (byte_of m x) p) o.block)
 
     next_bytes : put_within first more (bytes_of m b) ≡ bytes_of next b
@@ -197,13 +196,13 @@ module _ (node inode top : ℕ) (known : IsLayout) (n : ℕ) (number : n ≢ 0) 
 
     pub over_put : IsOver type (bytes ++ more) next
     over_put = record {
-      volume = volume_put node inode top type m o.volume known n number c_there more range some first few fits put_there behind next_small k next_kind
+      volume = volume_put node inode top type m o.volume n number c_there more range some first few fits put_there behind next_small k next_kind
           no_directory;
       block = numbered_same node inode top type m next o.volume.typed
-          (put_in node inode top type m o.volume known n number c_there more range some first few fits put_there behind).keeps n ∙ o.block;
+          (put_in node inode top type m o.volume n number c_there more range some first few fits put_there behind).keeps n ∙ o.block;
       fields = next_fields ∙ o.fields;
       files_are =
-          files_put node inode top type m o.volume known n number c_there more range some first few fits put_there behind next_small k next_kind no_directory
+          files_put node inode top type m o.volume n number c_there more range some first few fits put_there behind next_small k next_kind no_directory
           ∙ (ap (λ g. changed_at g n (with_put first more)) o.files_are
           ∙ (changed_twice files n (with_content (bytes_of m b)) (with_put first more)
           ∙ ap (changed_at files n) (fun_ext (λ x. ap (λ y. record x { content = y })
@@ -262,7 +261,7 @@ module _ (node inode top : ℕ) (known : IsLayout) (n : ℕ) (number : n ≢ 0) 
     abbrev pub dated : ℕ → List ℕ
     dated = written (changes_act b (size_changes (risen was.size end) (record { mtime = time; ctime = time }) ∷ []) None) m
 
-    is_sized : sized node inode top type m o.volume known n number m_there size' time fits size_short k m_kind no_directory ≡ dated
+    is_sized : sized node inode top type m o.volume n number m_there size' time fits size_short k m_kind no_directory ≡ dated
     is_sized =
         let change : changed_size (fields_of (m (block_numbered m top n))).size size' ≡ risen was.size end =
         ap (λ (g : Fields). changed_size g.size size') (ap (λ x. fields_of (m x)) o.block ∙ o.fields) ∙ size_change in
@@ -270,7 +269,7 @@ module _ (node inode top : ℕ) (known : IsLayout) (n : ℕ) (number : n ≢ 0) 
 
     pub dated_volume : IsVolume node inode type dated top
     dated_volume = subst (λ c. IsVolume node inode type c top) is_sized
-        (sized_volume node inode top type m o.volume known n number m_there size' time fits size_short k m_kind no_directory)
+        (sized_volume node inode top type m o.volume n number m_there size' time fits size_short k m_kind no_directory)
 
     sized_bytes : bytes_from m (block_numbered m top n) 0 size' ≡ overwritten (bytes_of content b) at bytes
     sized_bytes =
@@ -284,7 +283,7 @@ module _ (node inode top : ℕ) (known : IsLayout) (n : ℕ) (number : n ≢ 0) 
     pub dated_files : files_of dated top ≡ changed_at files n dated_inode
     dated_files =
         ap (λ c. files_of c top) (sym is_sized)
-        ∙ (sized_files node inode top type m o.volume known n number m_there size' time fits size_short k m_kind no_directory
+        ∙ (sized_files node inode top type m o.volume n number m_there size' time fits size_short k m_kind no_directory
         ∙ (ap (λ g. changed_at g n (λ x. record x {
           mtime = time;
           ctime = time;

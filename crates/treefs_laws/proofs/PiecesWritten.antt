@@ -30,7 +30,6 @@ use Rattle.treefs.specs.declared.volume.Volume.{Volume}
 use Rattle.treefs_edits.specs.Plans.{Does}
 use Rattle.treefs_values.specs.Bytes.{bucket_at, place_in_bucket, with_put}
 use Rattle.treefs_values.specs.Kinds.{kinds}
-use Rattle.treefs_values.specs.KnownLayout.{IsLayout}
 use Rattle.treefs_values.specs.Values.{KeepsBlocks}
 use Rattle.treefs_values.proofs.ForCallers.{acts_read}
 use Rattle.treefs_laws.specs.Kept.{files_in}
@@ -82,7 +81,7 @@ piece_is at bytes some low = record {
       | inr more ↦ inl (length-take-le (part_left at) bytes more, more)
     ]
 
-module _ (T : Types) (known : IsLayout) (state : StoreState) (volume : Volume) (is_open : IsOpen T state volume) (n : ℕ) (x : Found)
+module _ (T : Types) (state : StoreState) (volume : Volume) (is_open : IsOpen T state volume) (n : ℕ) (x : Found)
     (x_is : file_found (readable state volume.tree.fs.number) volume.tree.top n ≡ Ok x) (size_few : x.fields.size ≤ greatest_size)
     (at : ℕ) (low : at < greatest_size) (zeros : (p : ℕ) → x.fields.size ≤ p → p < at → byte_of (readable state volume.tree.fs.number) x.block p ≡ 0)
     (bytes : List ℕ) (some : length bytes ≢ 0) (wide : All (λ b. b < 256) bytes) where
@@ -102,13 +101,13 @@ module _ (T : Types) (known : IsLayout) (state : StoreState) (volume : Volume) (
   is_piece = piece_is at bytes some low
 
   pub size_small : (fields_of (content x.block)).size ≤ greatest_size
-  size_small = subst (λ (g : Fields). g.size ≤ greatest_size) (sym (fields_are T known state volume is_open n x x_is)) size_few
+  size_small = subst (λ (g : Fields). g.size ≤ greatest_size) (sym (fields_are T state volume is_open n x x_is)) size_few
 
   pub zeros_past : (p : ℕ) → (fields_of (content x.block)).size ≤ p → p < at → byte_of content x.block p ≡ 0
-  zeros_past p past lt = zeros p (subst (λ (g : Fields). g.size ≤ p) (fields_are T known state volume is_open n x x_is) past) lt
+  zeros_past p past lt = zeros p (subst (λ (g : Fields). g.size ≤ p) (fields_are T state volume is_open n x x_is) past) lt
 
   abbrev Overs : (ℕ → ℕ) → List ℕ → (ℕ → List ℕ) → Type 0
-  Overs type bytes m = Over T known state volume is_open n x x_is size_small at type bytes m
+  Overs type bytes m = Over T state volume is_open n x x_is size_small at type bytes m
 
   -- so many bytes are taken
   abbrev pub Said : StoreState → Volume → ℕ → Type 0
@@ -121,7 +120,7 @@ module _ (T : Types) (known : IsLayout) (state : StoreState) (volume : Volume) (
   piece_said new volume' taken count opened files =
       let s = is_piece.some in let f = is_piece.few in let e = is_piece.end in (
         opened,
-        written_some T known state volume is_open n x x_is at bytes taken some low
+        written_some T state volume is_open n x x_is at bytes taken some low
             ∙ (ap (λ k. Ok (changed_at (files_in state volume) n (rewritten volume.memory.clock (λ b. overwritten b at (take k bytes))))) count
             ∙ (ap (λ l. Ok (changed_at (files_in state volume) n (rewritten volume.memory.clock (λ b. overwritten b at l))))
             (taken_again (part_left at) bytes) ∙ ap Ok (sym files))),
@@ -146,14 +145,14 @@ module _ (T : Types) (known : IsLayout) (state : StoreState) (volume : Volume) (
     pub put_over : (type : ℕ → ℕ) → kinds state fs ≡ type → Overs type piece put_there
     put_over type same =
         let v = is_open.kept.bytes in
-        let f = found_there T known state volume is_open n x x_is in
-        let there = x_there T known state volume is_open n x x_is in
-        let is_kind = kind_is T known state volume is_open n x x_is in
-        let no_directory = (file_there T known state volume is_open n x x_is).no_directory in
-        let o = over_put volume.tree.node_type volume.tree.inode_type top known n f.number x.block there x.kind no_directory content (sym f.block) is_kind
+        let f = found_there T state volume is_open n x x_is in
+        let there = x_there T state volume is_open n x x_is in
+        let is_kind = kind_is T state volume is_open n x x_is in
+        let no_directory = (file_there T state volume is_open n x x_is).no_directory in
+        let o = over_put volume.tree.node_type volume.tree.inode_type top n f.number x.block there x.kind no_directory content (sym f.block) is_kind
         size_small at
         (kinds state fs) [] content
-        (over_none volume.tree.node_type volume.tree.inode_type top known n f.number x.block there x.kind no_directory content (sym f.block) is_kind
+        (over_none volume.tree.node_type volume.tree.inode_type top n f.number x.block there x.kind no_directory content (sym f.block) is_kind
         size_small at (kinds state fs) v)
         piece (All-take (λ b. b < 256) (part_left at) bytes wide) is_piece.some (subst (λ p. bucket_at p ≤ leaf_count) (sym at_is) few_buckets_there)
         (subst (λ p. length piece ≤ part_left p) (sym at_is) is_piece.fits)
@@ -181,16 +180,16 @@ module _ (T : Types) (known : IsLayout) (state : StoreState) (volume : Volume) (
         let bucket : bucket_at at ≡ 0 = ap (λ t. if t then 0 else at / 512 + 1) (lt-ltb at 384 is_low) in
         let place : place_in_bucket at ≡ at = ap (λ t. if t then at else at % 512) (lt-ltb at 384 is_low) in
         let o = put_over x.block (128 + at) (ap (bucket_block content x.block) bucket) (λ j. bucket_start (bucket j) + place j)
-        (x_there T known state volume is_open n x x_is)
+        (x_there T state volume is_open n x x_is)
         (kinds new fs) (sym read.2) in
         let reads = read.1 ∙ (written_twice x.block (content_patch at piece) (changes_patch
         (size_changes (risen x.fields.size (at + length piece)) (times_now volume.memory)) ∷ []) content
         ∙ ap (λ (g : Fields). written (changes_act x.block (size_changes (risen g.size (at + length piece)) (times_now volume.memory) ∷ []) None)
-        (written (patch_act x.block (one_patch (128 + at) piece) None) content)) (sym (fields_are T known state volume is_open n x x_is))) in
+        (written (patch_act x.block (one_patch (128 + at) piece) None) content)) (sym (fields_are T state volume is_open n x x_is))) in
         let m = written (patch_act x.block (one_patch (128 + at) piece) None) content in
         subst (λ w. Said new w taken) (sym is) (piece_said new (changed_volume volume n true) taken count
-        (dated_open T known state volume is_open n x x_is size_small at new read.0 root piece m o is_piece.end zeros_past reads)
-        (dated_seen T known state volume is_open n x x_is size_small at new read.0 root piece m o is_piece.end zeros_past reads))
+        (dated_open T state volume is_open n x x_is size_small at new read.0 root piece m o is_piece.end zeros_past reads)
+        (dated_seen T state volume is_open n x x_is size_small at new read.0 root piece m o is_piece.end zeros_past reads))
 
   -- In a leaf
 
@@ -233,11 +232,11 @@ module _ (T : Types) (known : IsLayout) (state : StoreState) (volume : Volume) (
         let read = acts_read T fs (first_act ∷ []) state new is_open.kept.store (leaf_keep None) ran in
         let root : root_of new fs ≡ Some top = ran_root T fs (first_act ∷ []) state new is_open.kept.store (leaf_keep None) ran ∙ is_open.root in
         let o = leaf_over (kinds new fs) (sym read.2) in
-        let within = subst (λ (g : Fields). at + length piece ≤ g.size) (sym (fields_are T known state volume is_open n x x_is))
+        let within = subst (λ (g : Fields). at + length piece ≤ g.size) (sym (fields_are T state volume is_open n x x_is))
         (risen_cases None is (nat_lt x.fields.size (at + length piece)) refl refl) in
         subst (λ w. Said new w taken) (sym v) (piece_said new (changed_volume volume n false) taken count
-        (touched_open T known state volume is_open n x x_is size_small at new read.0 root piece put_leaf o read.1 within)
-        (touched_seen T known state volume is_open n x x_is size_small at new read.0 root piece put_leaf o read.1 within))
+        (touched_open T state volume is_open n x x_is size_small at new read.0 root piece put_leaf o read.1 within)
+        (touched_seen T state volume is_open n x x_is size_small at new read.0 root piece put_leaf o read.1 within))
     leaf_by (Some s) is new volume' taken count ran v =
         let acts = first_act ∷ size_acts x.block leaf (Some s) (times_now volume.memory) in
         let read = acts_read T fs acts state new is_open.kept.store (leaf_keep (Some s)) ran in
@@ -246,10 +245,10 @@ module _ (T : Types) (known : IsLayout) (state : StoreState) (volume : Volume) (
         let reads = read.1
         ∙ (ap (λ r. written (changes_act x.block (size_changes r (times_now volume.memory) ∷ []) None) put_leaf) (sym is)
         ∙ ap (λ (g : Fields). written (changes_act x.block (size_changes (risen g.size (at + length piece)) (times_now volume.memory) ∷ []) None) put_leaf)
-        (sym (fields_are T known state volume is_open n x x_is))) in
+        (sym (fields_are T state volume is_open n x x_is))) in
         subst (λ w. Said new w taken) (sym v) (piece_said new (changed_volume volume n true) taken count
-        (dated_open T known state volume is_open n x x_is size_small at new read.0 root piece put_leaf o is_piece.end zeros_past reads)
-        (dated_seen T known state volume is_open n x x_is size_small at new read.0 root piece put_leaf o is_piece.end zeros_past reads))
+        (dated_open T state volume is_open n x x_is size_small at new read.0 root piece put_leaf o is_piece.end zeros_past reads)
+        (dated_seen T state volume is_open n x x_is size_small at new read.0 root piece put_leaf o is_piece.end zeros_past reads))
 
     pub leaf_done : (new : StoreState) (volume' : Volume) (taken : ℕ) → let size = risen x.fields.size (at + length piece) in
         Takes T state new volume volume' n (record { starts = []; acts = λ begun. first_act ∷ size_acts x.block leaf size (times_now volume.memory) })
@@ -291,8 +290,8 @@ module _ (T : Types) (known : IsLayout) (state : StoreState) (volume : Volume) (
                 let root : root_of new fs ≡ Some top = ran_root T fs (first_act ∷ []) state new is_open.kept.store (leaf_keep None) ran ∙ is_open.root in
                 let o = leaf_over (kinds new fs) (sym read.2) in
                 inr (
-                  put_open T known state volume is_open n x x_is size_small at new read.0 root piece put_leaf o read.1,
-                  put_seen T known state volume is_open n x x_is size_small at new read.0 root piece put_leaf o read.1,
+                  put_open T state volume is_open n x x_is size_small at new read.0 root piece put_leaf o read.1,
+                  put_seen T state volume is_open n x x_is size_small at new read.0 root piece put_leaf o read.1,
                 )
           ]
         ]

@@ -4,6 +4,7 @@ use Rattle.std.proofs.Common.{if◌then◌else◌}
 use Rattle.std.specs.Prelude.{nat_lt, slice_index}
 use Rattle.std.proofs.lemmas.Bool.{ltb-false, ltb-true, le-ltb}
 use Rattle.treefs_format.specs.Paths.{first_leaf, height_of, last_beside, leaf_count, place_in_tree, steps}
+use Rattle.treefs_format.proofs.ForCallers.{leaves_beside}
 use Rattle.treefs_lookup.specs.Walks.{holder_steps, pointer_offset}
 use Rattle.treefs.specs.Reaping.{first_beside}
 use Rattle.treefs_values.specs.Ways.{IsWay}
@@ -48,8 +49,7 @@ path_cons : (os : List ℕ) → IsWay os 0 → os ≡ slice_index os 0 ∷ drop 
 path_cons [] way = absurd way
 path_cons (o ∷ q) way = refl
 
-module _ (beside : (i j o : ℕ) (holder : List ℕ) → j < leaf_count → i ≤ j → j ≤ last_beside i → steps i ≡ o ∷ holder → steps j ≡ (o + 4 * (j - i)) ∷ holder)
-    (leaf : ℕ) where
+module _ (leaf : ℕ) where
   abbrev base : ℕ
   base = first_beside leaf
 
@@ -61,7 +61,7 @@ module _ (beside : (i j o : ℕ) (holder : List ℕ) → j < leaf_count → i �
   behind = holder_steps base
 
   at : (l : ℕ) → l < leaf_count → base ≤ l → l ≤ last_beside leaf → steps l ≡ (start + 4 * (l - base)) ∷ behind
-  at l few low high = beside base l start behind few low (subst (λ x. l ≤ x) (sym (one_block leaf).2) high) (path_cons (steps base) (steps_way base))
+  at l few low high = leaves_beside base l start behind few low (subst (λ x. l ≤ x) (sym (one_block leaf).2) high) (path_cons (steps base) (steps_way base))
 
   -- the pointer to a leaf beside it stands in the same block
   pub steps_beside : (l : ℕ) → leaf < leaf_count → l < leaf_count → base ≤ l → l ≤ last_beside leaf → steps l ≡ (start + 4 * (l - base)) ∷ holder_steps leaf

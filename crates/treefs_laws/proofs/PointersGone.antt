@@ -14,7 +14,6 @@ use Rattle.treefs_format.specs.declared.kind.Kind.TheVariants as kind
 use Rattle.treefs_model.specs.Reading.{block_at, bucket_of, byte_of, files_of, inode_block, inode_of, key_in, leaf_block, leaf_byte, pointed}
 use Rattle.treefs_model.specs.Trees.{has_pointer}
 use Rattle.treefs_values.specs.Dropped.{AreDropped, IsCovered, IsHolderWay, IsLost}
-use Rattle.treefs_values.specs.KnownLayout.{IsLayout}
 use Rattle.treefs_values.specs.Volumes.{IsDirectory, IsVolume, IsWholeBlock}
 use Rattle.treefs_values.specs.Ways.{ArePointersApart, IsTyped, IsWay, block_numbered}
 use Rattle.treefs_values.proofs.ForCallers.{IsAlike, file_read, in_leaf, inode_numbered}
@@ -39,7 +38,7 @@ IsUnled node inode type content r = (p o : ℕ) → IsTrue (has_pointer node ino
 abbrev pub IsRoot : ℕ → ℕ → (ℕ → ℕ) → (ℕ → List ℕ) → ℕ → ℕ → Type 0
 IsRoot node inode type content top r = ((n : ℕ) × (r ≡ block_numbered content top n)) ⊎ ((r ≢ top) × IsUnled node inode type content r)
 
-module _ (node inode top : ℕ) (type type' : ℕ → ℕ) (old new : ℕ → List ℕ) (v : IsVolume node inode type old top) (f : IsLayout)
+module _ (node inode top : ℕ) (type type' : ℕ → ℕ) (old new : ℕ → List ℕ) (v : IsVolume node inode type old top)
     (r : ℕ) (r_some : r ≢ 0) (r_is : IsInodeBlock node inode type old r) (stands : IsRoot node inode type old top r) (q : List ℕ) (way_to : IsHolderWay q)
     (holder_some : block_at old r q ≢ 0) (places : List (ℕ × ℕ)) (gone : AreDropped node inode type type' old new (block_at old r q) places)
     (of : (b : ℕ) → IsGone old (block_at old r q) places b → IsOf old top r b) where
@@ -75,7 +74,7 @@ module _ (node inode top : ℕ) (type type' : ℕ → ℕ) (old new : ℕ → Li
   top_is = is_block 0 v.root
 
   apart_numbers : (m k : ℕ) → block m ≢ 0 → block m ≡ block k → m ≡ k
-  apart_numbers = inodes_apart node inode top type old v f
+  apart_numbers = inodes_apart node inode top type old v
 
   kept_or_lost : (b : ℕ) → Kept b ⊎ Lost b
   kept_or_lost b = elim (cases_eq b holder) [

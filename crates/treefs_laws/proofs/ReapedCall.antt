@@ -1,12 +1,11 @@
 -- What reap leaves: an open volume, on which the orphans of some numbers may be gone, and once it is done they are.
-use Rattle.std.proofs.Common.{◌≡◌, ◌≢◌, ◌⊎◌, ℕ, ◌+◌, ◌-◌, ◌*◌, ◌<◌, ◌≤◌, Bool, true, false, List, [], ◌∷◌, length, Option, None, Some, Result, Ok, Err, refl}
+use Rattle.std.proofs.Common.{◌≡◌, ◌≢◌, ◌⊎◌, ℕ, ◌+◌, ◌-◌, Bool, true, false, List, [], ◌∷◌, length, Option, None, Some, Result, Ok, Err, refl}
 use Rattle.std.proofs.Common.{sym, ◌∙◌, ap, inl, inr, subst, arith}
 use Rattle.std.specs.Prelude.{Contains, IsOkAnd, IsSomeAnd, MatchBool, MatchResult, ◌==◌}
 use Rattle.std.proofs.lemmas.Bool.{eqb-false, eqb-true}
 use Rattle.xn_model.specs.Lives.{StoreState}
 use Rattle.xn_model.specs.Types.{Types}
 use Rattle.xn_model.proofs.ForCallers.{Contains-cons, Contains-head, Contains-none, Contains-tail}
-use Rattle.treefs_format.specs.Paths.{last_beside, leaf_count, steps}
 use Rattle.treefs_format.specs.Roots.{leaf_of_inode}
 use Rattle.treefs_lookup.specs.Readable.{readable}
 use Rattle.treefs_model.specs.Files.{Files, Inode}
@@ -19,7 +18,6 @@ use Rattle.treefs.specs.Reaping.{plan_of_reap, reap_act, reaped_memory}
 use Rattle.treefs.specs.Trimming.{DoesIfAny}
 use Rattle.treefs.specs.declared.reap_plan.ReapPlan.{ReapPlan}
 use Rattle.treefs.specs.declared.volume.Volume.{Volume}
-use Rattle.treefs_values.specs.KnownLayout.{IsLayout}
 use Rattle.treefs_laws.specs.Kept.{files_in}
 use Rattle.treefs_laws.specs.Open.{IsOpen}
 use Rattle.treefs_laws.specs.Orphans.{IsOrphan, IsReaped, WaitLess, without_orphans}
@@ -35,9 +33,7 @@ use Rattle.treefs_model.specs.Reading.{files_of}
 abbrev pub with_memory : Volume → Memory → Volume
 with_memory volume memory = record volume { memory = memory }
 
-module _ (T : Types) (known : IsLayout)
-    (beside : (i j o : ℕ) (holder : List ℕ) → j < leaf_count → i ≤ j → j ≤ last_beside i → steps i ≡ o ∷ holder → steps j ≡ (o + 4 * (j - i)) ∷ holder)
-    (numbers : List ℕ) where
+module _ (T : Types) (numbers : List ℕ) where
   -- the volume, and where its session stands
   abbrev Said : StoreState → StoreState → Volume → Volume → Type 0
   Said old new volume volume' = IsOpen T new volume' × IsReaped (Contains numbers) (files_in old volume) (files_in new volume')
@@ -82,7 +78,7 @@ module _ (T : Types) (known : IsLayout)
 
     same_said : new ≡ old → (memory' : Memory) → memory' ≡ volume.memory → Said old new volume (with_memory volume memory')
     same_said same memory' is =
-        let s = same_volume T known numbers old new volume is_open same (with_memory volume memory') (ap (with_memory volume) is) in (
+        let s = same_volume T numbers old new volume is_open same (with_memory volume memory') (ap (with_memory volume) is) in (
           s.0,
           s.1,
           refl,
@@ -129,8 +125,8 @@ module _ (T : Types) (known : IsLayout)
         freed_now plan is does memory_is =
             let ran = ran_acts T fs (reap_act plan ∷ []) old new does in
             let memory_so : memory' ≡ _ = memory_is ∙ ap (freed_memory volume.memory) is.freed_are in
-            let said = freed_said T known numbers old new volume is_open beside (leaf_of_inode number) own plan is ran in
-            let gone = own_gone T known numbers old new volume is_open beside (leaf_of_inode number) own plan is ran
+            let said = freed_said T numbers old new volume is_open (leaf_of_inode number) own plan is ran in
+            let gone = own_gone T numbers old new volume is_open (leaf_of_inode number) own plan is ran
             (subst (Contains numbers) number_is among) in
             subst (λ m. Said old new volume (with_memory volume m) × Gone old new volume (with_memory volume m) result number) (sym memory_so) (
               (
@@ -138,7 +134,7 @@ module _ (T : Types) (known : IsLayout)
                 said.1,
                 refl,
                 refl,
-                freed_waits T known numbers old new volume is_open beside (leaf_of_inode number) own plan is ran,
+                freed_waits T numbers old new volume is_open (leaf_of_inode number) own plan is ran,
                 unnamed_kept T old new volume (with_memory volume _) is_open refl said.2,
               ),
               λ done orphan. ap (files_in new (with_memory volume (freed_memory volume.memory _))) number_is ∙ gone,
@@ -188,7 +184,7 @@ module _ (T : Types) (known : IsLayout)
       by : (r : Result (Unit {0}) Fault) → MatchResult r (λ done. ⊥) (λ fault. EmptiesOne T volume.tree volume.memory number old new (Err fault)) →
           Said old new volume volume
       by (Ok done) none = absurd none
-      by (Err fault) does = let s = one_emptied T known numbers old new volume is_open number (sub number (Contains-head number left)) (Err fault) does in (
+      by (Err fault) does = let s = one_emptied T numbers old new volume is_open number (sub number (Contains-head number left)) (Err fault) does in (
         s.0,
         s.1,
         refl,
@@ -197,7 +193,7 @@ module _ (T : Types) (known : IsLayout)
         unnamed_kept T old new volume volume is_open refl s.2,
       )
   empties_said (number ∷ left) sub old new volume is_open result (inr (middle, one, rest)) =
-      let s = one_emptied T known numbers old middle volume is_open number (sub number (Contains-head number left)) (Ok tt) one in
+      let s = one_emptied T numbers old middle volume is_open number (sub number (Contains-head number left)) (Ok tt) one in
       said_then old middle new volume volume volume (
         s.0,
         s.1,

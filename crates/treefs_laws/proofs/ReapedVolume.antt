@@ -1,5 +1,5 @@
 -- An open volume once inodes without links were trimmed to nothing, or freed.
-use Rattle.std.proofs.Common.{◌≡◌, ◌≢◌, ◌⊎◌, ℕ, ◌+◌, ◌-◌, ◌*◌, ◌<◌, ◌≤◌, Bool, true, false, not, List, [], ◌∷◌, Option, None, Some, Result, Ok, refl, sym}
+use Rattle.std.proofs.Common.{◌≡◌, ◌≢◌, ◌⊎◌, ℕ, ◌+◌, Bool, true, false, not, List, [], ◌∷◌, Option, None, Some, Result, Ok, refl, sym}
 use Rattle.std.proofs.Common.{◌∙◌, ap, inl, inr, subst, if◌then◌else◌}
 use Rattle.std.specs.Prelude.{Contains, option_map, ◌==◌}
 use Rattle.std.proofs.lemmas.Bool.{cases_eq, eqb-false}
@@ -9,7 +9,6 @@ use Rattle.xn_model.specs.Lives.{StoreState}
 use Rattle.xn_model.specs.Types.{Types}
 use Rattle.xn_model.proofs.ForCallers.{filter_at, filter_from, has_number_at, has_number_from}
 use Rattle.treefs_format.specs.Inodes.{kind_of}
-use Rattle.treefs_format.specs.Paths.{last_beside, leaf_count, steps}
 use Rattle.treefs_format.specs.declared.fields.Fields.{Fields}
 use Rattle.treefs_lookup.specs.Readable.{readable}
 use Rattle.treefs_model.specs.Acts.{Ran}
@@ -24,7 +23,6 @@ use Rattle.treefs.specs.Trimming.{TrimDoes, TrimsFirst, kept_nothing}
 use Rattle.treefs.specs.declared.reap_plan.ReapPlan.{ReapPlan}
 use Rattle.treefs.specs.declared.volume.Volume.{Volume}
 use Rattle.treefs_values.specs.Kinds.{kinds}
-use Rattle.treefs_values.specs.KnownLayout.{IsLayout}
 use Rattle.treefs_values.specs.Ways.{block_numbered}
 use Rattle.treefs_values.proofs.ForCallers.{IsAt, candidates_few}
 use Rattle.treefs_laws.specs.Kept.{files_in}
@@ -55,7 +53,7 @@ was_some : (touched : List Touched) (files : Files) (m : ℕ) → seen_files tou
 unfolding seen_files
 was_some touched files m some none = some (ap (option_map (seen_inode touched m)) none)
 
-module _ (T : Types) (known : IsLayout) (numbers : List ℕ) (old new : StoreState) (volume : Volume) (is_open : IsOpen T old volume) where
+module _ (T : Types) (numbers : List ℕ) (old new : StoreState) (volume : Volume) (is_open : IsOpen T old volume) where
   abbrev fs : ℕ
   fs = volume.tree.fs.number
 
@@ -101,7 +99,7 @@ module _ (T : Types) (known : IsLayout) (numbers : List ℕ) (old new : StoreSta
     fields = o.found.fields
 
     abbrev InodeAt : StoreState → Type 0
-    InodeAt s = IsInodeAt T volume.tree known c fields s
+    InodeAt s = IsInodeAt T volume.tree c fields s
 
     at : InodeAt old
     at = record {
@@ -120,16 +118,16 @@ module _ (T : Types) (known : IsLayout) (numbers : List ℕ) (old new : StoreSta
     said s = inode_with fields (content_at (readable s fs) (key_in (readable s fs) top) c fields.parent o.found.kind)
 
     says_at : (s : StoreState) → InodeAt s → block_numbered (readable s fs) top number ≡ c → files_of (readable s fs) top number ≡ Some (said s)
-    says_at s at_s block = says T volume.tree known c fields s number o.found.kind o.is.number at_s block is_kind
+    says_at s at_s block = says T volume.tree c fields s number o.found.kind o.is.number at_s block is_kind
 
     module _ (result : Result (Unit {0}) Fault) (does : TrimDoes T fs volume.memory (kept_nothing (orphan_block content top number)) old new result) where
-      leaves : Leaves T volume.tree known c fields old new
-      leaves = empties T volume.tree known c fields volume.memory old new result at
+      leaves : Leaves T volume.tree c fields old new
+      leaves = empties T volume.tree c fields volume.memory old new result at
           (subst (λ x. TrimDoes T fs volume.memory (kept_nothing x) old new result) o.block does)
 
       others_same : (m : ℕ) → m ≢ number → files_now m ≡ files_before m
       others_same m ne = leaves.others m (λ is. ne
-          (inodes_apart volume.tree.node_type volume.tree.inode_type top (kinds old fs) content is_open.kept.bytes known m number
+          (inodes_apart volume.tree.node_type volume.tree.inode_type top (kinds old fs) content is_open.kept.bytes m number
           (λ z. o.is.there (sym is ∙ z)) is))
 
       says_now : files_now number ≡ Some (said new)
@@ -143,7 +141,7 @@ module _ (T : Types) (known : IsLayout) (numbers : List ℕ) (old new : StoreSta
             subst (λ (i : Inode). IsLeftOf i.content (said new).content) same
                 (content_left content (readable new fs) (key_in content top) (key_in (readable new fs) top) c fields.parent o.found.kind leaves.key
                 (leaves.at.fields_are ∙ sym at.fields_are) leaves.bytes (λ k few. leaves.buckets k)
-                (λ is. is_open.kept.bytes.directories number o.is.number o.is.there (o.is.kind ∙ ap Some is)) (candidates_few known.high)),
+                (λ is. is_open.kept.bytes.directories number o.is.number o.is.there (o.is.kind ∙ ap Some is)) candidates_few),
             says_now ∙ ap (λ (i : Inode). Some (record i { content = (said new).content })) same,
           )
 
@@ -199,25 +197,24 @@ module _ (T : Types) (known : IsLayout) (numbers : List ℕ) (old new : StoreSta
 
   -- Those that are freed
 
-  module _ (beside : (i j o : ℕ) (holder : List ℕ) → j < leaf_count → i ≤ j → j ≤ last_beside i → steps i ≡ o ∷ holder → steps j ≡ (o + 4 * (j - i)) ∷ holder)
-      (leaf : ℕ) (own : orphan_block (readable old volume.tree.fs.number) volume.tree.top (leaf + 1) ≢ 0) (plan : ReapPlan)
+  module _ (leaf : ℕ) (own : orphan_block (readable old volume.tree.fs.number) volume.tree.top (leaf + 1) ≢ 0) (plan : ReapPlan)
       (is : IsFreeing old volume.tree.fs.number volume.tree.top numbers leaf plan) (ran : Ran T volume.tree.fs.number (reap_act plan ∷ []) old new (Ok tt))
     where
       abbrev freed_so : ℕ → Bool
       freed_so m = is_freed (freed_beside content top numbers leaf) m
 
       freed_none : (m : ℕ) → freed_so m ≡ true → files_now m ≡ None
-      freed_none m e = freed_gone T volume.tree known beside old new at_old numbers leaf own plan is ran m e
+      freed_none m e = freed_gone T volume.tree old new at_old numbers leaf own plan is ran m e
 
       left_same : (m : ℕ) → freed_so m ≡ false → files_now m ≡ files_before m
       left_same m e = elim (cases_eq m 0) [
         | inl z ↦ file_none (readable new fs) top m (ap (inode_block (readable new fs) top) z) ∙ sym (file_none content top m (ap (inode_block content top) z))
-        | inr some ↦ others_there T volume.tree known beside old new at_old numbers leaf own plan is ran m some e
+        | inr some ↦ others_there T volume.tree old new at_old numbers leaf own plan is ran m some e
       ]
 
       freed_was : (m : ℕ) → freed_so m ≡ true → IsOrphan (Contains numbers) files_before m
       freed_was m e =
-          let f = freed_orphan T volume.tree known beside old new at_old numbers leaf own m e in
+          let f = freed_orphan T volume.tree old new at_old numbers leaf own m e in
           orphan_in_files m (has_number_at numbers m f.0) (orphan_is content top m f.1)
 
       reaped : IsReaped (Contains numbers) files_before files_now
@@ -247,7 +244,7 @@ module _ (T : Types) (known : IsLayout) (numbers : List ℕ) (old new : StoreSta
       times_stay m false e = inr (λ times. times_left (freed_beside content top numbers leaf) m e times volume.memory.touched)
 
       still : IsAt T fs volume.tree.node_type volume.tree.inode_type top new
-      still = freed_at_still T volume.tree known beside old new at_old numbers leaf own plan is ran
+      still = freed_at_still T volume.tree old new at_old numbers leaf own plan is ran
 
       pub freed_said : Said (record volume {
         memory = freed_memory volume.memory (freed_beside (readable old volume.tree.fs.number) volume.tree.top numbers leaf);
@@ -271,7 +268,7 @@ module _ (T : Types) (known : IsLayout) (numbers : List ℕ) (old new : StoreSta
               volume.memory.touched is_open.touched;
         },
         reaped_seen (Contains numbers) volume.memory.touched memory'.touched files_before files_now (λ m. times_stay m (freed_so m) refl) reaped,
-        freed_aside T volume.tree known beside old new at_old numbers leaf own plan is ran,
+        freed_aside T volume.tree old new at_old numbers leaf own plan is ran,
       )
 
       pub own_gone : Contains numbers (leaf + 1) →
@@ -280,7 +277,7 @@ module _ (T : Types) (known : IsLayout) (numbers : List ℕ) (old new : StoreSta
       unfolding seen_files
       own_gone among =
           ap (option_map (seen_inode memory'.touched (leaf + 1)))
-          (freed_none (leaf + 1) (own_freed T volume.tree known beside old new at_old numbers leaf own (has_number_from numbers (leaf + 1) among)))
+          (freed_none (leaf + 1) (own_freed T volume.tree old new at_old numbers leaf own (has_number_from numbers (leaf + 1) among)))
 
       pub freed_waits : WaitLess volume.memory.orphans
           (left_orphans volume.memory.orphans (freed_beside (readable old volume.tree.fs.number) volume.tree.top numbers leaf))

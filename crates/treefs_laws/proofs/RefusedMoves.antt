@@ -31,7 +31,6 @@ use Rattle.treefs_name_plans.specs.declared.naming.Naming.{Naming}
 use Rattle.treefs_name_plans.specs.declared.rename_plan.RenamePlan.{RenamePlan}
 use Rattle.treefs.specs.Renaming.{DoesRename, RenameDoes, renamed_volume}
 use Rattle.treefs.specs.declared.volume.Volume.{Volume}
-use Rattle.treefs_values.specs.KnownLayout.{IsLayout}
 use Rattle.treefs_laws.specs.Kept.{IsKept, files_in}
 use Rattle.treefs_laws.specs.Refusals.{IsNoPlace, IsNotMoved, IsOfStore, IsRefused}
 use Rattle.treefs_laws.proofs.Answering.{ended_so, none_ended, number_so, taken_so, value_at}
@@ -72,7 +71,7 @@ one_kind kind.Directory is = refl
 one_kind kind.File is = absurd (cc is)
 one_kind kind.SymbolicLink is = absurd (cc is)
 
-module _ (T : Types) (state : StoreState) (volume : Volume) (kept : IsKept T state volume) (known : IsLayout) (d : ℕ) (name : List ℕ) (to : ℕ) (new : List ℕ) (g : Fault) where
+module _ (T : Types) (state : StoreState) (volume : Volume) (kept : IsKept T state volume) (d : ℕ) (name : List ℕ) (to : ℕ) (new : List ℕ) (g : Fault) where
   abbrev fs : ℕ
   fs = volume.tree.fs.number
 
@@ -194,7 +193,7 @@ module _ (T : Types) (state : StoreState) (volume : Volume) (kept : IsKept T sta
             filled = λ z. (
               ended.slot.number,
               number_so state volume to new ∙ ap (λ r. and_then r (λ (s : Slot). Ok s.number)) at.0,
-              filled T state volume kept known ended.slot.number ended.inode at.1 (one_kind ended.inode.kind one) bucket next,
+              filled T state volume kept ended.slot.number ended.inode at.1 (one_kind ended.inode.kind one) bucket next,
             );
           }
 

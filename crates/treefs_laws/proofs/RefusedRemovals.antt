@@ -21,7 +21,6 @@ use Rattle.treefs_name_plans.specs.declared.name_end.NameEnd.{NameEnd}
 use Rattle.treefs_name_plans.specs.declared.removal.RemovalPlan.{RemovalPlan}
 use Rattle.treefs.specs.Unlinking.{RmdirDoes, ended_volume}
 use Rattle.treefs.specs.declared.volume.Volume.{Volume}
-use Rattle.treefs_values.specs.KnownLayout.{IsLayout}
 use Rattle.treefs_laws.specs.Kept.{IsKept, files_in}
 use Rattle.treefs_laws.specs.Refusals.{IsNotRemoved, IsRefused}
 use Rattle.treefs_laws.proofs.Answering.{ended_so, no_directory_ended, number_so}
@@ -39,7 +38,7 @@ one_directory content key block parent kind.Directory is = refl
 one_directory content key block parent kind.File is = absurd (cc is)
 one_directory content key block parent kind.SymbolicLink is = absurd (cc is)
 
-module _ (T : Types) (state state' : StoreState) (volume volume' : Volume) (kept : IsKept T state volume) (known : IsLayout) (d : ℕ) (name : List ℕ) (g : Fault) where
+module _ (T : Types) (state state' : StoreState) (volume volume' : Volume) (kept : IsKept T state volume) (d : ℕ) (name : List ℕ) (g : Fault) where
   abbrev fs : ℕ
   fs = volume.tree.fs.number
 
@@ -76,7 +75,7 @@ module _ (T : Types) (state state' : StoreState) (volume volume' : Volume) (kept
         filled = λ is_false. (
           ended.slot.number,
           number_so state volume d name ∙ ap (λ r. and_then r (λ (slot : Slot). Ok slot.number)) at.0,
-          filled T state volume kept known ended.slot.number ended.inode at.1 one bucket next,
+          filled T state volume kept ended.slot.number ended.inode at.1 one bucket next,
         );
       }
 

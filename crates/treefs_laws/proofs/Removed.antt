@@ -40,7 +40,6 @@ use Rattle.treefs.specs.Remembered.{ended_memory}
 use Rattle.treefs.specs.Unlinking.{RmdirDoes}
 use Rattle.treefs.specs.declared.volume.Volume.{Volume}
 use Rattle.treefs_values.specs.Kinds.{kinds}
-use Rattle.treefs_values.specs.KnownLayout.{IsLayout}
 use Rattle.treefs_values.specs.Values.{KeepsBlocks, found_value}
 use Rattle.treefs_values.specs.Ways.{block_numbered}
 use Rattle.treefs_values.proofs.ForCallers.{IsEntry, acts_read, candidates_few, entry_is, found_inode}
@@ -84,13 +83,13 @@ module _ (state : StoreState) (fs c : ℕ) (some : c ≢ 0) (without : AreWithou
           empty_bucket (inr other) z = rw (ne_eqb k 0 other) (rw (sym (ap (λ t. if t then c else leaf_block content c (k - 1)) (ne_eqb k 0 other)) ∙ z) (rw (no_length [] refl) refl))
       by (inr there) none = no_live name (records_of (bucket_of content c k)) (ap (λ b. not b && has_live (bucket_of content c k)) (sym (ne_eqb (bucket_block content c k) 0 there)) ∙ none)
 
-  pub no_names : (known : IsLayout) (key : List ℕ) → number_of content key c name ≡ None
-  no_names known key = none_among content c name (candidates (name_hash key name)) (λ k has. none_at k (candidates_few known.high (name_hash key name) k has))
+  pub no_names : (key : List ℕ) → number_of content key c name ≡ None
+  no_names key = none_among content c name (candidates (name_hash key name)) (λ k has. none_at k (candidates_few (name_hash key name) k has))
 
 -- The block of a record
 
 module _ (T : Types) (state : StoreState) (volume : Volume) (kept : IsKept T state volume) (d : ℕ) (name : List ℕ) (slot : Slot)
-    (slot_is : entry_found (readable state volume.tree.fs.number) volume.tree.top d name ≡ Ok slot) (known : IsLayout) where
+    (slot_is : entry_found (readable state volume.tree.fs.number) volume.tree.top d name ≡ Ok slot) where
   abbrev bytes_of : ℕ → List ℕ
   bytes_of = readable state volume.tree.fs.number
 
@@ -111,7 +110,7 @@ module _ (T : Types) (state : StoreState) (volume : Volume) (kept : IsKept T sta
           let empty : bucket_of bytes_of c e.bucket ≡ [] = rw (ne_eqb e.bucket 0 other) (rw z refl) in
           absurd (Contains-none e.record_of (subst (λ es. Contains (placed 0 es) e.record_of) (no_length [] refl) (subst (λ m. Contains (records_of m) e.record_of) empty e.slot_is.of.there)))
       by (inr some) =
-          let few = candidates_few known.high (name_hash (key_in bytes_of volume.tree.top) name) e.bucket e.candidate in
+          let few = candidates_few (name_hash (key_in bytes_of volume.tree.top) name) e.bucket e.candidate in
           typed_some (leaf_block bytes_of c (e.bucket - 1)) 2 (kept.bytes.typed.leaves d (e.bucket - 1) e.number (omega arith) some) (λ z. absurd (omega (arith, z)))
 
   pub block_some : 0 < length (bytes_of slot.block)
@@ -197,7 +196,7 @@ some_names other (Directory parent names) = names
 some_names other (File bytes) = other
 some_names other (SymbolicLink bytes) = other
 
-module _ (T : Types) (state state' : StoreState) (volume volume' : Volume) (d : ℕ) (name : List ℕ) (known : IsLayout) (kept : IsKept T state volume) where
+module _ (T : Types) (state state' : StoreState) (volume volume' : Volume) (d : ℕ) (name : List ℕ) (kept : IsKept T state volume) where
   abbrev fs : ℕ
   fs = volume.tree.fs.number
 
@@ -229,7 +228,7 @@ module _ (T : Types) (state state' : StoreState) (volume volume' : Volume) (d : 
       let at = ended_is content volume.tree.top d name ended p.found_so in
       let made = acts_read T fs (acts_of plan end) state state' kept.store (keeps end plan.first (drop 1 plan.pending.items) behind)
       (subst (λ x. Ran T fs (acts_of plan x) state state' (Ok tt)) p.end_is ran) in
-      let bare = waits_write content ended.slot.block plan.first p.first_is (block_some T state volume kept d name ended.slot at.0 known)
+      let bare = waits_write content ended.slot.block plan.first p.first_is (block_some T state volume kept d name ended.slot at.0)
       (drop 1 plan.pending.items) (end_acts end behind) in
       let read : IsConsistent T state' × (readable state' fs ≡ all_written (end_acts end behind) content) × (kinds state' fs ≡ kinds state fs) =
       (made.0, made.1 ∙ bare, made.2) in
@@ -240,23 +239,23 @@ module _ (T : Types) (state state' : StoreState) (volume volume' : Volume) (d : 
       let block_is : ended.inode.block ≢ 0 = λ z. found_is.there (sym found_is.block ∙ z) in
       let key = key_in content volume.tree.top in
       let is_directory_is = is_one content key ended.inode.block ended.inode.fields.parent ended.inode.kind p.directory in
-      let number_so = number_is T state state' volume known kept d name ended at.0 at.1 behind in
+      let number_so = number_is T state state' volume kept d name ended at.0 at.1 behind in
       subst Said later_is (
-        ended_kept T state state' volume known kept d name ended at.0 at.1 behind read,
+        ended_kept T state state' volume kept d name ended at.0 at.1 behind read,
         n,
         number_so,
         (λ inode parent names x there content_is.
             let same : seen_inode volume.memory.touched n (found_value content volume.tree.top ended.inode) ≡ inode =
             same_Some (seen_inode volume.memory.touched n (found_value content volume.tree.top ended.inode)) inode
-            (sym (seen_there T state state' volume known kept d name ended at.0 at.1 behind) ∙ there) in
+            (sym (seen_there T state state' volume kept d name ended at.0 at.1 behind) ∙ there) in
             ap (λ (i : Content). some_names (λ y. None) i x) (sym content_is ∙ (ap (λ (i : Inode). i.content) (sym same) ∙ is_directory_is))
-            ∙ no_names state fs ended.inode.block block_is p.without x known key),
+            ∙ no_names state fs ended.inode.block block_is p.without x key),
         ap (λ r. and_then r (λ n. and_then (found seen n) (λ inode. if not (is_directory inode.content) then Err NotDir
             else when true (without_name seen volume.memory.clock d name n) NotEmpty))) number_so
             ∙ (ap (λ r. and_then r (λ inode. if not (is_directory inode.content) then Err NotDir else when true done NotEmpty))
-            (inode_seen T state state' volume known kept d name ended at.0 at.1 behind)
+            (inode_seen T state state' volume kept d name ended at.0 at.1 behind)
             ∙ (ap (λ c. if not (is_directory c) then Err NotDir else when true done NotEmpty) is_directory_is
-            ∙ ap Ok (sym (ended_files T state state' volume known kept d name ended at.0 at.1 behind read)))),
+            ∙ ap Ok (sym (ended_files T state state' volume kept d name ended at.0 at.1 behind read)))),
       )
 
   pub removed_so : RmdirDoes T state state' volume volume' d name (Ok tt) → Said volume'

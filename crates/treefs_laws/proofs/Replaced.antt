@@ -39,7 +39,6 @@ use Rattle.treefs.specs.Remembered.{now_times, written_times}
 use Rattle.treefs.specs.declared.volume.Volume.{Volume}
 use Rattle.treefs_values.specs.Attached.{new_content}
 use Rattle.treefs_values.specs.Kinds.{kinds}
-use Rattle.treefs_values.specs.KnownLayout.{IsLayout}
 use Rattle.treefs_values.specs.Values.{KeepsBlocks, inode_with_links, led_to}
 use Rattle.treefs_values.specs.Volumes.{IsVolume}
 use Rattle.treefs_values.specs.Ways.{block_numbered}
@@ -161,7 +160,7 @@ module _ (content : ℕ → List ℕ) (top d : ℕ) (name : List ℕ) (m : ℕ) 
       plain (same_Some inode.kind kind.Directory
       (sym (found_inode content top m inode inode_is).kind ∙ (ap (λ x. kind_of (fields_of (content (block_numbered content top x))).mode) same ∙ is)))
 
-module _ (T : Types) (state state' : StoreState) (volume : Volume) (d : ℕ) (name : List ℕ) (is_open : IsOpen T state volume) (known : IsLayout)
+module _ (T : Types) (state state' : StoreState) (volume : Volume) (d : ℕ) (name : List ℕ) (is_open : IsOpen T state volume)
     (wide : All (λ b. b < 256) name) (block : ℕ) (inode_now : Inode) (y_is : IsBegun state volume block inode_now) where
   abbrev fs : ℕ
   fs = volume.tree.fs.number
@@ -188,10 +187,10 @@ module _ (T : Types) (state state' : StoreState) (volume : Volume) (d : ℕ) (na
   seen = files_in state volume
 
   abbrev own : New
-  own = y T state state' volume d name is_open known wide block inode_now y_is
+  own = y T state state' volume d name is_open wide block inode_now y_is
 
   own_new : IsNew node inode (kinds state fs) (readable state fs) top own
-  own_new = is_new T state state' volume d name is_open known wide block inode_now y_is
+  own_new = is_new T state state' volume d name is_open wide block inode_now y_is
 
   module _ (plan : CommitPlan) (p : IsSecondPlan state volume.tree volume.memory d name [] plan) where
     abbrev n : ℕ
@@ -237,13 +236,13 @@ module _ (T : Types) (state state' : StoreState) (volume : Volume) (d : ℕ) (na
 
     fine : All Fine starts
     fine = All-append Fine (node_starts node inode (table_nodes commit)) []
-        (fine_nodes T fs node inode top is_open.few is_open.tree known kept.bytes.types.0 kept.bytes.some_types is_open.short (table_nodes commit)) (All-nil Fine)
+        (fine_nodes T fs node inode top is_open.few is_open.tree kept.bytes.types.0 kept.bytes.some_types is_open.short (table_nodes commit)) (All-nil Fine)
 
     abbrev old_links : ℕ
     old_links = p.ended.inode.fields.links
 
     pub old_fit : AreTimes (times_of p.ended.inode.fields)
-    old_fit = fit T state state' volume known kept d name p.ended at.0 at.1 None
+    old_fit = fit T state state' volume kept d name p.ended at.0 at.1 None
 
     abbrev old_times : Option Times
     old_times = newest volume.memory kept.session m d (times_of p.ended.inode.fields) old_fit (nat_le old_links 1)
@@ -271,9 +270,9 @@ module _ (T : Types) (state state' : StoreState) (volume : Volume) (d : ℕ) (na
           let slot_still = entry_still content (readable middle fs) top d name p.ended.slot e.number (inodes.inodes d e.number e.there) inodes.key at.0 in
           let found_now = found_still content (readable middle fs) top m i.number (inodes.inodes m i.number i.there) ∙ at.1 in
           let read = acts_read T fs (ends holder) middle state' there.store (ends_keep holder) last in
-          let led = name_led node inode top (kinds middle fs) (readable middle fs) there.volume known d name p.ended.slot slot_still p.ended.inode found_now (old_links - 1) old_times None
+          let led = name_led node inode top (kinds middle fs) (readable middle fs) there.volume d name p.ended.slot slot_still p.ended.inode found_now (old_links - 1) old_times None
           (links_are_changes volume.memory kept.session m d (times_of p.ended.inode.fields) old_fit (nat_le old_links 1) (old_links - 1)
-          (short T state state' volume known kept d name p.ended at.0 at.1 None)) n n_short (Some holder) (Some end.block) in (
+          (short T state state' volume kept d name p.ended at.0 at.1 None)) n n_short (Some holder) (Some end.block) in (
             record {
               store = read.0;
               root = ran_root T fs (ends holder) middle state' there.store (ends_keep holder) last ∙ there.root;
@@ -300,8 +299,8 @@ module _ (T : Types) (state state' : StoreState) (volume : Volume) (d : ℕ) (na
           let holder : ℕ = last_or_owner commit.owner (blocks_in xs) in
           let news' = new_parts node inode top (kinds b0 fs) (readable b0 fs) xs zs (subst (AreNew node inode (kinds b0 fs) (readable b0 fs) top) parts.2 news) in
           let apart = all_front (IsOther own) xs zs (subst (All (IsOther own)) parts.2 others) in
-          let t = tabled_so T fs node inode top is_open.few is_open.tree known b0 state b.at b.ways n n_some n_within p.next.can.free y_is.fields y_is.head y_is.in_range y_is.short
-          y_is.size y_is.of_kind y_is.kind_is (empty T state state' volume d name is_open known wide block inode_now y_is) xs own parts.3 news'.0 own_then
+          let t = tabled_so T fs node inode top is_open.few is_open.tree b0 state b.at b.ways n n_some n_within p.next.can.free y_is.fields y_is.head y_is.in_range y_is.short
+          y_is.size y_is.of_kind y_is.kind_is (empty T state state' volume d name is_open wide block inode_now y_is) xs own parts.3 news'.0 own_then
           (All-weaker (IsOther own) (λ z. IsOther z own) (λ z ne same. ne (sym same)) xs apart.0) refl refl (ends holder) state' ran'' in
           from_middle holder t.middle t.tabled (inodes_then content (readable b0 fs) (readable t.middle fs) top b.inodes t.inodes) (ap (λ f. f n) (sym b.files) ∙ t.was)
           (t.files ∙ (ap (λ f. with_inode f n (Some (inode_with y_is.fields (new_content y_is.of_kind y_is.fields.parent y_is.head)))) b.files
@@ -315,7 +314,7 @@ module _ (T : Types) (state state' : StoreState) (volume : Volume) (d : ℕ) (na
     carried : Does T fs (commit_plan name block commit) state state' (Ok tt) → IsDone state'
     carried does = elim does [
       | inl none ↦ absurd none
-      | inr r ↦ stored r.0 r.1 (begun_so T fs node inode top is_open.few is_open.tree starts [] r.0 state r.1 fine (here T state state' volume d name is_open known wide block inode_now y_is) r.2) r.3
+      | inr r ↦ stored r.0 r.1 (begun_so T fs node inode top is_open.few is_open.tree starts [] r.0 state r.1 fine (here T state state' volume d name is_open wide block inode_now y_is) r.2) r.3
     ]
 
     -- The volume
@@ -328,10 +327,10 @@ module _ (T : Types) (state state' : StoreState) (volume : Volume) (d : ℕ) (na
       touched = volume.memory.touched
 
       abbrev old_value : Inode
-      old_value = value T state state' volume known kept d name p.ended at.0 at.1 None
+      old_value = value T state state' volume kept d name p.ended at.0 at.1 None
 
       old_there : files_of content top m ≡ Some old_value
-      old_there = value_there T state state' volume known kept d name p.ended at.0 at.1 None
+      old_there = value_there T state state' volume kept d name p.ended at.0 at.1 None
 
       lead : led_to n ≡ Some n
       lead = ap (λ t. if t then None else Some n) (ne_eqb n 0 n_some)
@@ -355,7 +354,7 @@ module _ (T : Types) (state state' : StoreState) (volume : Volume) (d : ℕ) (na
           record { once = s.once; clock = s.clock; times = s.times }
 
       number : and_then (names_for seen d name) (λ names. ok_or (names name) NoEntry) ≡ Ok m
-      number = number_is T state state' volume known kept d name p.ended at.0 at.1 None
+      number = number_is T state state' volume kept d name p.ended at.0 at.1 None
 
       still_there : (j : ℕ) → seen j ≢ None → files_in state' later j ≢ None
       still_there j some none =
@@ -374,7 +373,7 @@ module _ (T : Types) (state state' : StoreState) (volume : Volume) (d : ℕ) (na
         },
         not_seen,
         replaces_some seen (files_in state' later) clock d name n inode_now m (seen_inode touched m old_value) number
-            (inode_seen T state state' volume known kept d name p.ended at.0 at.1 None)
+            (inode_seen T state state' volume kept d name p.ended at.0 at.1 None)
             (not_directory content (key_in content top) p.ended.inode.block p.ended.inode.fields.parent p.ended.inode.kind p.no_directory) files_so,
       )
 
@@ -384,7 +383,7 @@ module _ (T : Types) (state state' : StoreState) (volume : Volume) (d : ℕ) (na
   Said volume' n = IsOpen T state' volume' × (seen n ≡ None) × (replaced seen clock d name n inode_now ≡ Ok (files_in state' volume'))
 
   second_said : (volume' : Volume) (n : ℕ) (plan : CommitPlan) → IsSecondPlan state volume.tree volume.memory d name [] plan →
-      IsPlanned T state state' volume d name is_open known wide block inode_now y_is true volume' n plan → Said volume' n
+      IsPlanned T state state' volume d name is_open wide block inode_now y_is true volume' n plan → Said volume' n
   second_said volume' n plan p (is_planned, does, number, is) =
       let whole = said plan p (carried plan p (subst (λ x. Does T fs (commit_plan name block x) state state' (Ok tt)) p.plan_is does)) in
       subst (Said volume') (sym number)
@@ -393,10 +392,10 @@ module _ (T : Types) (state state' : StoreState) (volume : Volume) (d : ℕ) (na
 
   pub replaced_said : (volume' : Volume) (number : ℕ) → CommitDoes T state state' volume volume' block d name true (Ok number) → Said volume' number
   replaced_said volume' number does =
-      let c = planned_so T state state' volume d name is_open known wide block inode_now y_is true volume' number does in
+      let c = planned_so T state state' volume d name is_open wide block inode_now y_is true volume' number does in
       elim (second_planned state volume.tree volume.memory d name [] c.0 c.1.0) [
         | inl p ↦
-            let first = first_said T state state' volume d name is_open known wide block inode_now y_is true volume' number c.0 p c.1 in
+            let first = first_said T state state' volume d name is_open wide block inode_now y_is true volume' number c.0 p c.1 in
             (first.0, first.1.1, replaces_none seen (files_in state' volume') clock d name number inode_now first.1.0 first.1.2)
         | inr p ↦ second_said volume' number c.0 p c.1
       ]

@@ -9,6 +9,7 @@ use Rattle.xn_model.specs.BareDisks.{zeros}
 use Rattle.xn_model.specs.Types.{Types}
 use Rattle.treefs_format.specs.Nodes.{node_bytes}
 use Rattle.treefs_format.specs.Templates.{IsTree}
+use Rattle.treefs_format.proofs.ForCallers.{node_children, node_long}
 use Rattle.treefs_model.specs.Acts.{Act, attach_act, changes_act, wait_act}
 use Rattle.treefs_edits.specs.Missing.{child_before, node_acts, node_starts}
 use Rattle.treefs_edits.specs.Written.{all_written, written}
@@ -17,7 +18,6 @@ use Rattle.treefs_edits.specs.declared.times.Times.{Times}
 use Rattle.treefs_byte_plans.specs.Fields.{size_acts, size_changes}
 use Rattle.treefs_byte_plans.specs.Runs.{attach_acts, holder_acts, leaf_of, leaf_starts, own_act, run_waits}
 use Rattle.treefs_byte_plans.specs.declared.run_plan.RunPlan.{RunPlan}
-use Rattle.treefs_values.specs.KnownLayout.{IsLayout}
 use Rattle.treefs_values.specs.Values.{KeepsBlocks}
 use Rattle.treefs_values.specs.Volumes.{IsWholeBlock}
 use Rattle.treefs_values.proofs.ForCallers.{IsFineStart, New, bare_node, blocks_in, low_offset, node_small}
@@ -44,7 +44,7 @@ few_taken k bytes = elim (cases_lt (length bytes) k) [
   | inr more ↦ let e = length-take-le k bytes more in omega arith
 ]
 
-module _ (T : Types) (fs node inode top : ℕ) (few : fs < 32) (tree : IsTree T node inode) (known : IsLayout) (other : (2 ≢ node) × (2 ≢ inode))
+module _ (T : Types) (fs node inode top : ℕ) (few : fs < 32) (tree : IsTree T node inode) (other : (2 ≢ node) × (2 ≢ inode))
     (some : node ≢ 0) (small : node < 2 ^ 8) where
   abbrev Fine : Start → Type 0
   Fine = IsFineStart T fs node inode top few tree
@@ -53,10 +53,10 @@ module _ (T : Types) (fs node inode top : ℕ) (few : fs < 32) (tree : IsTree T 
   nodes_fine [] = All-nil Fine
   nodes_fine (o ∷ os) =
       All-cons Fine (record { ty = node; bytes = node_bytes (child_before node 2 os) }) (node_starts node 2 os) (record {
-        whole = (known.node_long (child_before node 2 os), node_small (child_before node 2 os) (child os));
+        whole = (node_long (child_before node 2 os), node_small (child_before node 2 os) (child os));
         some_type = some;
         bare = λ p has.
-            let stands = low_offset node inode node p has in bare_node (node_bytes (child_before node 2 os)) (known.node_children (child_before node 2 os))
+            let stands = low_offset node inode node p has in bare_node (node_bytes (child_before node 2 os)) (node_children (child_before node 2 os))
             p stands.0 stands.1 stands.2;
       }) (nodes_fine os)
     where

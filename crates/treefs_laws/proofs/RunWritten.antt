@@ -38,13 +38,12 @@ use Rattle.treefs.specs.Writing.{Takes}
 use Rattle.treefs.specs.declared.volume.Volume.{Volume}
 use Rattle.treefs_values.specs.Bytes.{with_put}
 use Rattle.treefs_values.specs.Kinds.{kinds}
-use Rattle.treefs_values.specs.KnownLayout.{IsLayout}
 use Rattle.treefs_values.specs.Volumes.{IsWholeBlock}
 use Rattle.treefs_values.specs.Ways.{IsWay, block_numbered}
 use Rattle.treefs_values.proofs.ForCallers.{AreBegun, AreNew, AreOf, IsAt, IsFineStart, IsKeptInode, IsOther, IsPathTo, New, acts_read, begun_so, blocks_in, new_kept, new_parts, of_long, of_parts, onto, path_to, steps_way}
 use Rattle.treefs_laws.specs.Kept.{files_in}
 use Rattle.treefs_laws.specs.Open.{IsOpen}
-use Rattle.treefs_laws.proofs.Attaching.{AreAttached, way_type}
+use Rattle.treefs_laws.proofs.Attaching.{way_type}
 use Rattle.treefs_laws.proofs.FileOver.{Over, dated_open, dated_seen, fields_are, file_there, found_there, kind_is, put_open, put_seen, touched_open, touched_seen, written_some, x_there}
 use Rattle.treefs_laws.proofs.ForgottenBlocks.{begins_stays, forgotten_stays, stays_open}
 use Rattle.treefs_laws.proofs.Fronts.{IsFront, attach_front, front_keeps, front_none, ran_front}
@@ -75,7 +74,7 @@ taken_least k bytes = elim (cases_lt (length bytes) k) [
   | inr more ↦ let e : min (length bytes) k ≡ k = omega arith in ap (λ n. take n bytes) e
 ]
 
-module _ (laws : AreAttached) (T : Types) (known : IsLayout) (state : StoreState) (volume : Volume) (is_open : IsOpen T state volume) (n : ℕ) (x : Found)
+module _ (T : Types) (state : StoreState) (volume : Volume) (is_open : IsOpen T state volume) (n : ℕ) (x : Found)
     (x_is : file_found (readable state volume.tree.fs.number) volume.tree.top n ≡ Ok x) (size_few : x.fields.size ≤ greatest_size)
     (at : ℕ) (low : at < greatest_size) (zeros : (p : ℕ) → x.fields.size ≤ p → p < at → byte_of (readable state volume.tree.fs.number) x.block p ≡ 0)
     (bytes : List ℕ) (some : length bytes ≢ 0) (wide : All (λ b. b < 256) bytes) (high : 384 ≤ at)
@@ -107,13 +106,13 @@ module _ (laws : AreAttached) (T : Types) (known : IsLayout) (state : StoreState
   owner = plan.owner
 
   small : (fields_of (content x.block)).size ≤ greatest_size
-  small = size_small T known state volume is_open n x x_is size_few at low zeros bytes some wide
+  small = size_small T state volume is_open n x x_is size_few at low zeros bytes some wide
 
   abbrev Overs : (ℕ → ℕ) → List ℕ → (ℕ → List ℕ) → Type 0
-  Overs type written_bytes m = Over T known state volume is_open n x x_is small at type written_bytes m
+  Overs type written_bytes m = Over T state volume is_open n x x_is small at type written_bytes m
 
   abbrev there : x.block ≢ 0
-  there = x_there T known state volume is_open n x x_is
+  there = x_there T state volume is_open n x x_is
 
   -- the volume is open still, and the first of the bytes stand where the file had some
   abbrev pub Left : StoreState → Type 0
@@ -155,9 +154,9 @@ module _ (laws : AreAttached) (T : Types) (known : IsLayout) (state : StoreState
 
   starts_fine : All Fine (run_starts bytes plan)
   starts_fine = All-append Fine (node_starts node 2 (run_nodes plan)) (leaf_starts count (at % 512) bytes)
-      (nodes_fine T fs node inode top is_open.few is_open.tree known (is_open.kept.bytes.types.1, is_open.kept.bytes.types.2)
+      (nodes_fine T fs node inode top is_open.few is_open.tree (is_open.kept.bytes.types.1, is_open.kept.bytes.types.2)
       is_open.kept.bytes.some_types.0 is_open.short.0 (run_nodes plan))
-      (leaves_fine T fs node inode top is_open.few is_open.tree known (is_open.kept.bytes.types.1, is_open.kept.bytes.types.2)
+      (leaves_fine T fs node inode top is_open.few is_open.tree (is_open.kept.bytes.types.1, is_open.kept.bytes.types.2)
       is_open.kept.bytes.some_types.0 is_open.short.0 count (at % 512) bytes (omega arith) wide)
 
   here : IsAt T fs node inode top state
@@ -171,18 +170,18 @@ module _ (laws : AreAttached) (T : Types) (known : IsLayout) (state : StoreState
     type = kinds s fs
 
     abbrev numbered : block_numbered content top n ≡ x.block
-    numbered = sym (found_there T known state volume is_open n x x_is).block
+    numbered = sym (found_there T state volume is_open n x x_is).block
 
     kept : IsKeptInode content c0 top n
-    kept = a.inodes.inodes n (found_there T known state volume is_open n x x_is).number (found_there T known state volume is_open n x x_is).there
+    kept = a.inodes.inodes n (found_there T state volume is_open n x x_is).number (found_there T state volume is_open n x x_is).there
 
     over0 : Overs type [] c0
-    over0 = over_same laws node inode top known n (found_there T known state volume is_open n x x_is).number x.block there x.kind
-        (file_there T known state volume is_open n x x_is).no_directory
-        content numbered (kind_is T known state volume is_open n x x_is) small at (kinds state fs) type [] content c0
-        (over_none node inode top known n (found_there T known state volume is_open n x x_is).number x.block there x.kind
-        (file_there T known state volume is_open n x x_is).no_directory
-        content numbered (kind_is T known state volume is_open n x x_is) small at (kinds state fs) is_open.kept.bytes)
+    over0 = over_same node inode top n (found_there T state volume is_open n x x_is).number x.block there x.kind
+        (file_there T state volume is_open n x x_is).no_directory
+        content numbered (kind_is T state volume is_open n x x_is) small at (kinds state fs) type [] content c0
+        (over_none node inode top n (found_there T state volume is_open n x x_is).number x.block there x.kind
+        (file_there T state volume is_open n x x_is).no_directory
+        content numbered (kind_is T state volume is_open n x x_is) small at (kinds state fs) is_open.kept.bytes)
         a.at.volume (kept.block ∙ numbered) (subst (λ b. fields_of (c0 b) ≡ fields_of (content b)) numbered (ap fields_of kept.alike.own)) a.files
         (λ p lt. subst (λ b. byte_of c0 b p ≡ byte_of content b p) numbered (alike_byte content c0 (block_numbered content top n) kept.alike p))
 
@@ -270,13 +269,13 @@ module _ (laws : AreAttached) (T : Types) (known : IsLayout) (state : StoreState
           ∙ (ap (block_at c0 x.block) (sym (steps_at j lt)) ∙ (ways 0 (steps (leaf + j)) (steps_way (leaf + j)) ∙ missing j lt)))
       free_first (y ∷ os) is o next = ap (pointed c0 owner) next ∙ p.next_zero y os (sym is)
 
-      with_nodes : AreNodes laws T fs node inode top is_open.few is_open.tree known n (found_there T known state volume is_open n x x_is).number x.block
+      with_nodes : AreNodes T fs node inode top is_open.few is_open.tree n (found_there T state volume is_open n x x_is).number x.block
           there x.kind
-          (file_there T known state volume is_open n x x_is).no_directory content numbered (kind_is T known state volume is_open n x x_is) small at type l0
+          (file_there T state volume is_open n x x_is).no_directory content numbered (kind_is T state volume is_open n x x_is) small at type l0
           More more_stands [] q nodes ys owner c0
-      with_nodes = nodes_over laws T fs node inode top is_open.few is_open.tree known n (found_there T known state volume is_open n x x_is).number x.block
+      with_nodes = nodes_over T fs node inode top is_open.few is_open.tree n (found_there T state volume is_open n x x_is).number x.block
           there x.kind
-          (file_there T known state volume is_open n x x_is).no_directory content numbered (kind_is T known state volume is_open n x x_is) small at type l0
+          (file_there T state volume is_open n x x_is).no_directory content numbered (kind_is T state volume is_open n x x_is) small at type l0
           More more_stands [] nodes ys q owner c0
           over0 (sym p.holder) p.there first_way (subst (λ os. AreOf T fs node inode top is_open.few is_open.tree (node_starts node 2 os) ys) nodes_are
           parts.3) news.0
@@ -287,9 +286,9 @@ module _ (laws : AreAttached) (T : Types) (known : IsLayout) (state : StoreState
 
       news1 : AreNew node inode type m1 top zs
       news1 =
-          let plain = leaves_plain laws T fs node inode top is_open.few is_open.tree known n (found_there T known state volume is_open n x x_is).number
+          let plain = leaves_plain T fs node inode top is_open.few is_open.tree n (found_there T state volume is_open n x x_is).number
           x.block there x.kind
-          (file_there T known state volume is_open n x x_is).no_directory content numbered (kind_is T known state volume is_open n x x_is) small at type
+          (file_there T state volume is_open n x x_is).no_directory content numbered (kind_is T state volume is_open n x x_is) small at type
           is_open.kept.bytes.types.2 count (at % 512) bytes zs parts.4 in
           new_kept node inode top type type c0 m1 (λ z. (z.ty ≢ inode) × All (λ y. IsOther y z) ys) zs (λ i d lt. (plain i d lt, news.2 i d lt))
           (λ z both is. with_nodes.keeps z is both.0 both.1) news.1
@@ -298,9 +297,9 @@ module _ (laws : AreAttached) (T : Types) (known : IsLayout) (state : StoreState
       m2 = attach_each holder l0 (blocks_in zs) m1
 
       over2 : Overs type taken_bytes m2
-      over2 = leaves_over laws T fs node inode top is_open.few is_open.tree known n (found_there T known state volume is_open n x x_is).number x.block there
+      over2 = leaves_over T fs node inode top is_open.few is_open.tree n (found_there T state volume is_open n x x_is).number x.block there
           x.kind
-          (file_there T known state volume is_open n x x_is).no_directory content numbered (kind_is T known state volume is_open n x x_is) small at type
+          (file_there T state volume is_open n x x_is).no_directory content numbered (kind_is T state volume is_open n x x_is) small at type
           holder with_nodes.some above count zs leaf l0 (at % 512) [] bytes m1 with_nodes.over with_nodes.last parts.4 news1
           (λ j lt. record { few = (beside_at j lt).few; steps_are = steps_at j lt; none = with_nodes.zero_there (l0 + 4 * j) (j, lt, refl) }) wide
           (λ some_leaf. let e = enough in record { high = omega arith; leaf_is = omega arith; place_is = omega arith; enough = omega arith })
@@ -332,7 +331,7 @@ module _ (laws : AreAttached) (T : Types) (known : IsLayout) (state : StoreState
       with_size (Some k) = written (changes_act x.block (size_changes (Some k) (times_now volume.memory) ∷ []) None) m2
 
       first_is : x.fields.leaf_type ≡ slice_index (m2 x.block) 0
-      first_is = ap (λ (g : Fields). g.leaf_type) (sym (over2.fields ∙ fields_are T known state volume is_open n x x_is))
+      first_is = ap (λ (g : Fields). g.leaf_type) (sym (over2.fields ∙ fields_are T state volume is_open n x x_is))
 
       own_long : 0 < length (m2 x.block)
       own_long =
@@ -447,17 +446,17 @@ module _ (laws : AreAttached) (T : Types) (known : IsLayout) (state : StoreState
           let least : take (min k count) (blocks_in zs) ≡ take k (blocks_in zs) = ap (λ c. take (min k c) (blocks_in zs)) (sym zs_long) ∙ take_min k
           (blocks_in zs) in
           subst (λ l. Overs type (take (512 * min k count - at % 512) bytes) (attach_each holder l0 l m1)) (blocks_first (min k count) zs ∙ least)
-          (leaves_first laws T fs node inode top is_open.few is_open.tree known n (found_there T known state volume is_open n x x_is).number x.block there
+          (leaves_first T fs node inode top is_open.few is_open.tree n (found_there T state volume is_open n x x_is).number x.block there
           x.kind
-          (file_there T known state volume is_open n x x_is).no_directory content numbered (kind_is T known state volume is_open n x x_is) small at type
+          (file_there T state volume is_open n x x_is).no_directory content numbered (kind_is T state volume is_open n x x_is) small at type
           holder with_nodes.some above (min k count) count (omega arith) zs leaf l0 (at % 512) [] bytes m1 with_nodes.over with_nodes.last parts.4 news1
           (λ j lt. record { few = (beside_at j lt).few; steps_are = steps_at j lt; none = with_nodes.zero_there (l0 + 4 * j) (j, lt, refl) }) wide
           (λ some_leaf. let e = enough in record { high = omega arith; leaf_is = omega arith; place_is = omega arith; enough = omega arith }))
 
       front_over : (front : List Act) → IsFront all_acts front → (c : ℕ) × Overs type (take c bytes) (all_written front c0)
-      front_over front is = by (nodes_front laws T fs node inode top is_open.few is_open.tree known n
-          (found_there T known state volume is_open n x x_is).number x.block there x.kind
-          (file_there T known state volume is_open n x x_is).no_directory content numbered (kind_is T known state volume is_open n x x_is) small at type l0
+      front_over front is = by (nodes_front T fs node inode top is_open.few is_open.tree n
+          (found_there T state volume is_open n x x_is).number x.block there x.kind
+          (file_there T state volume is_open n x x_is).no_directory content numbered (kind_is T state volume is_open n x x_is) small at type l0
           More more_stands [] nodes ys q owner c0
           over0 (sym p.holder) p.there first_way (subst (λ os. AreOf T fs node inode top is_open.few is_open.tree (node_starts node 2 os) ys) nodes_are
           parts.3) news.0
@@ -477,11 +476,11 @@ module _ (laws : AreAttached) (T : Types) (known : IsLayout) (state : StoreState
 
       taken_said : (new : StoreState) (volume' : Volume) (taken : ℕ) → taken ≡ plan.taken → IsOpen T new volume' →
           files_in new volume' ≡ changed_at (files_in state volume) n (rewritten volume.memory.clock (λ b. overwritten b at taken_bytes)) →
-          Said T known state volume is_open n x x_is size_few at low zeros bytes some wide new volume' taken
+          Said T state volume is_open n x x_is size_few at low zeros bytes some wide new volume' taken
       taken_said new volume' taken is opened files =
           let t : taken ≡ min (length bytes) (512 * count - at % 512) = is in let b = bytes_some in let l = taken_is in let e = end_small in (
             opened,
-            written_some T known state volume is_open n x x_is at bytes taken some low
+            written_some T state volume is_open n x x_is at bytes taken some low
                 ∙ (ap (λ k. Ok (changed_at (files_in state volume) n (rewritten volume.memory.clock (λ b. overwritten b at (take k bytes))))) is
                 ∙ (ap (λ l. Ok (changed_at (files_in state volume) n (rewritten volume.memory.clock (λ b. overwritten b at l))))
                 (taken_least (512 * count - at % 512) bytes) ∙ ap Ok (sym files))),
@@ -496,18 +495,18 @@ module _ (laws : AreAttached) (T : Types) (known : IsLayout) (state : StoreState
         over_new = subst (λ t. Overs t taken_bytes m2) (sym types) over2
 
         size_is : risen (fields_of (content x.block)).size (at + length taken_bytes) ≡ size
-        size_is = (λ j. risen (fields_are T known state volume is_open n x x_is j).size (at + taken_is j))
+        size_is = (λ j. risen (fields_are T state volume is_open n x x_is j).size (at + taken_is j))
 
-        said_by : (o : Option ℕ) → size ≡ o → Said T known state volume is_open n x x_is size_few at low zeros bytes some wide new volume' taken
+        said_by : (o : Option ℕ) → size ≡ o → Said T state volume is_open n x x_is size_few at low zeros bytes some wide new volume' taken
         said_by None is =
             let read = reads ∙ all_left None is in
             let within : at + length taken_bytes ≤ (fields_of (content x.block)).size = not_risen
             (nat_lt (fields_of (content x.block)).size (at + length taken_bytes)) refl (size_is ∙ is) in
-            subst (λ w. Said T known state volume is_open n x x_is size_few at low zeros bytes some wide new w taken)
+            subst (λ w. Said T state volume is_open n x x_is size_few at low zeros bytes some wide new w taken)
             (sym (v ∙ ap (λ o. changed_volume volume n (is_some o)) is))
             (taken_said new (changed_volume volume n false) taken count_is
-            (touched_open T known state volume is_open n x x_is small at new store root taken_bytes m2 over_new read within)
-            (touched_seen T known state volume is_open n x x_is small at new store root taken_bytes m2 over_new read within))
+            (touched_open T state volume is_open n x x_is small at new store root taken_bytes m2 over_new read within)
+            (touched_seen T state volume is_open n x x_is small at new store root taken_bytes m2 over_new read within))
           where
             not_risen : (t : Bool) → nat_lt (fields_of (content x.block)).size (at + length taken_bytes) ≡ t →
                 risen (fields_of (content x.block)).size (at + length taken_bytes) ≡ None → at + length taken_bytes ≤ (fields_of (content x.block)).size
@@ -516,16 +515,16 @@ module _ (laws : AreAttached) (T : Types) (known : IsLayout) (state : StoreState
         said_by (Some k) is =
             let read = reads ∙ (all_left (Some k) is
             ∙ ap (λ o. written (changes_act x.block (size_changes o (times_now volume.memory) ∷ []) None) m2) (sym (size_is ∙ is))) in
-            let past = zeros_past T known state volume is_open n x x_is size_few at low zeros bytes some wide in
-            subst (λ w. Said T known state volume is_open n x x_is size_few at low zeros bytes some wide new w taken)
+            let past = zeros_past T state volume is_open n x x_is size_few at low zeros bytes some wide in
+            subst (λ w. Said T state volume is_open n x x_is size_few at low zeros bytes some wide new w taken)
             (sym (v ∙ ap (λ o. changed_volume volume n (is_some o)) is))
             (taken_said new (changed_volume volume n true) taken count_is
-            (dated_open T known state volume is_open n x x_is small at new store root taken_bytes m2 over_new end_small past read)
-            (dated_seen T known state volume is_open n x x_is small at new store root taken_bytes m2 over_new end_small past read))
+            (dated_open T state volume is_open n x x_is small at new store root taken_bytes m2 over_new end_small past read)
+            (dated_seen T state volume is_open n x x_is small at new store root taken_bytes m2 over_new end_small past read))
 
     run_said : (new : StoreState) (volume' : Volume) (taken : ℕ) → taken ≡ plan.taken → Ran T fs (run_acts plan begun) s new (Ok tt) →
         volume' ≡ changed_volume volume n (is_some plan.size) →
-        Said T known state volume is_open n x x_is size_few at low zeros bytes some wide new volume' taken
+        Said T state volume is_open n x x_is size_few at low zeros bytes some wide new volume' taken
     run_said new volume' taken count_is ran v =
         let ran' = subst (λ acts. Ran T fs acts s new (Ok tt)) acts_are ran in
         let keep = acts_keep plan node owner (run_nodes plan) (blocks_in ys) holder offset (blocks_in zs) in
@@ -543,16 +542,16 @@ module _ (laws : AreAttached) (T : Types) (known : IsLayout) (state : StoreState
         let read = acts_read T fs front s left a.at.store keep ran in
         let root = ran_root T fs front s left a.at.store keep ran ∙ a.at.root in
         let o = subst (λ t. Overs t (take over.0 bytes) (all_written front c0)) (sym read.2) over.1 in (
-          put_open T known state volume is_open n x x_is small at left read.0 root (take over.0 bytes) (all_written front c0) o read.1,
+          put_open T state volume is_open n x x_is small at left read.0 root (take over.0 bytes) (all_written front c0) o read.1,
           over.0,
-          put_seen T known state volume is_open n x x_is small at left read.0 root (take over.0 bytes) (all_written front c0) o read.1,
+          put_seen T state volume is_open n x x_is small at left read.0 root (take over.0 bytes) (all_written front c0) o read.1,
         )
 
     begun_left : Left s
     begun_left = (
-      put_open T known state volume is_open n x x_is small at s a.at.store a.at.root [] c0 over0 refl,
+      put_open T state volume is_open n x x_is small at s a.at.store a.at.root [] c0 over0 refl,
       0,
-      put_seen T known state volume is_open n x x_is small at s a.at.store a.at.root [] c0 over0 refl,
+      put_seen T state volume is_open n x x_is small at s a.at.store a.at.root [] c0 over0 refl,
     )
 
     ran_left : (left : StoreState) (reason : Refusal) → Ran T fs (run_acts plan begun) s left (Err reason) ⊎ ((reason ≡ refusal.NoMemory) × (left ≡ s)) →
@@ -569,13 +568,13 @@ module _ (laws : AreAttached) (T : Types) (known : IsLayout) (state : StoreState
 
   none_left : Left state
   none_left =
-      let o = over_none node inode top known n (found_there T known state volume is_open n x x_is).number x.block there x.kind
-      (file_there T known state volume is_open n x x_is).no_directory
-      content (sym (found_there T known state volume is_open n x x_is).block) (kind_is T known state volume is_open n x x_is) small at (kinds state fs)
+      let o = over_none node inode top n (found_there T state volume is_open n x x_is).number x.block there x.kind
+      (file_there T state volume is_open n x x_is).no_directory
+      content (sym (found_there T state volume is_open n x x_is).block) (kind_is T state volume is_open n x x_is) small at (kinds state fs)
       is_open.kept.bytes in (
         is_open,
         0,
-        put_seen T known state volume is_open n x x_is small at state is_open.kept.store is_open.root [] content o refl,
+        put_seen T state volume is_open n x x_is small at state is_open.kept.store is_open.root [] content o refl,
       )
 
   pub run_refused : (new : StoreState) (fault : Fault) → Does T fs (run_plan bytes plan) state new (Err fault) → Left new
@@ -590,7 +589,7 @@ module _ (laws : AreAttached) (T : Types) (known : IsLayout) (state : StoreState
 
   pub run_done : (new : StoreState) (volume' : Volume) (taken : ℕ) → Takes T state new volume volume' n (run_plan bytes plan) plan.taken (is_some plan.size)
       (Ok taken) →
-      Said T known state volume is_open n x x_is size_few at low zeros bytes some wide new volume' taken
+      Said T state volume is_open n x x_is size_few at low zeros bytes some wide new volume' taken
   run_done new volume' taken (count_is, inl none, v) = absurd none
   run_done new volume' taken (count_is, inr (begun, s, begins, ran), v) =
       run_said s begun (begun_so T fs node inode top is_open.few is_open.tree (run_starts bytes plan) [] begun state s starts_fine here begins) new volume'

@@ -30,13 +30,12 @@ use Rattle.treefs.specs.Remembered.{ended_memory, now_times, written_times}
 use Rattle.treefs.specs.Setting.{AttributesDoes, MtimeDoes, mtime_volume}
 use Rattle.treefs.specs.Unlinking.{RmdirDoes, UnlinkDoes, as_plan}
 use Rattle.treefs.specs.declared.volume.Volume.{Volume}
-use Rattle.treefs_values.specs.KnownLayout.{IsLayout}
 use Rattle.treefs_values.specs.Values.{KeepsBlocks}
 use Rattle.treefs_values.proofs.ForCallers.{edit_is}
 use Rattle.treefs_laws.specs.Kept.{IsKept, files_in}
 use Rattle.treefs_laws.specs.Open.{IsOpen}
 use Rattle.treefs_laws.specs.Setting.{AreInWidth, with_attributes}
-use Rattle.treefs_laws.proofs.Attributed.{AreModes, attributed_so}
+use Rattle.treefs_laws.proofs.Attributed.{attributed_so}
 use Rattle.treefs_laws.proofs.Planned.{ran_acts, same_done, then_ok}
 use Rattle.treefs_laws.proofs.Removed.{removed_so}
 use Rattle.treefs_laws.proofs.There.{changed_there}
@@ -127,10 +126,10 @@ module _ (T : Types) (state : StoreState) (volume : Volume) (is_open : IsOpen T 
           (all_touched (λ touch. files_in state later touch.number ≢ None) n (record { mtime = mtime; ctime = volume.memory.clock }) (stays n (some_there seen n f.0 f.1)) touched
           (still (files_in state later) stays))
 
-  pub attributes_open : IsLayout → AreModes → (state' : StoreState) (volume' : Volume) (n : ℕ) (a : Attributes) → AreInWidth a → AttributesDoes T state state' volume volume' n a (Ok tt) →
+  pub attributes_open : (state' : StoreState) (volume' : Volume) (n : ℕ) (a : Attributes) → AreInWidth a → AttributesDoes T state state' volume volume' n a (Ok tt) →
       IsOpen T state' volume'
-  attributes_open known modes state' volume' n a wide (does, is) =
-      subst (IsOpen T state') (sym is) (so (attributed_so T state state' volume (changed_volume volume n true) n a known modes wide is_open.kept (does, refl)))
+  attributes_open state' volume' n a wide (does, is) =
+      subst (IsOpen T state') (sym is) (so (attributed_so T state state' volume (changed_volume volume n true) n a wide is_open.kept (does, refl)))
     where
       root_same : (r : Result AttributesPlan Fault) → DoesPlanned T fs (as_plan attributes_plan r) state state' (Ok tt) → root_of state' fs ≡ root_of state fs
       root_same (Err fault) does = absurd does
@@ -161,11 +160,11 @@ module _ (T : Types) (state : StoreState) (volume : Volume) (is_open : IsOpen T 
       (all_touched (λ touch. files_in state' later touch.number ≢ None) d (now_times volume.memory) (stays d (directory_there seen d n name number))
       (written_times touched end.number end.fewer.times) (still_written (files_in state' later) stays end.number end.fewer.times))
 
-  pub unlink_open : IsLayout → (state' : StoreState) (volume' : Volume) (d : ℕ) (name : List ℕ) → UnlinkDoes T state state' volume volume' d name (Ok tt) → IsOpen T state' volume'
-  unlink_open known state' volume' d name (Err fault, planned, none, is) = absurd none
-  unlink_open known state' volume' d name (Ok plan, planned, does, is) =
+  pub unlink_open : (state' : StoreState) (volume' : Volume) (d : ℕ) (name : List ℕ) → UnlinkDoes T state state' volume volume' d name (Ok tt) → IsOpen T state' volume'
+  unlink_open state' volume' d name (Err fault, planned, none, is) = absurd none
+  unlink_open state' volume' d name (Ok plan, planned, does, is) =
       let later : Volume = record volume { memory = ended_memory volume.memory d plan.end } in
-      let said = unlinked_so T state state' volume later d name known is_open.kept (Ok plan, planned, does, refl) in
+      let said = unlinked_so T state state' volume later d name is_open.kept (Ok plan, planned, does, refl) in
       let one = then_ok (number_in seen d name) (λ n. and_then (found seen n) (λ inode. if is_directory inode.content then Err IsDir
       else Ok (without_name seen volume.memory.clock d name n))) (files_in state' later) said.1 in
       let two = then_ok (found seen one.0) (λ inode. if is_directory inode.content then Err IsDir else Ok (without_name seen volume.memory.clock d name one.0)) (files_in state' later) one.2 in
@@ -177,11 +176,11 @@ module _ (T : Types) (state : StoreState) (volume : Volume) (is_open : IsOpen T 
       of true f g e = absurd (cc e)
       of false f g e = same_done f g e
 
-  pub rmdir_open : IsLayout → (state' : StoreState) (volume' : Volume) (d : ℕ) (name : List ℕ) → RmdirDoes T state state' volume volume' d name (Ok tt) → IsOpen T state' volume'
-  rmdir_open known state' volume' d name (Err fault, planned, none, is) = absurd none
-  rmdir_open known state' volume' d name (Ok plan, planned, does, is) =
+  pub rmdir_open : (state' : StoreState) (volume' : Volume) (d : ℕ) (name : List ℕ) → RmdirDoes T state state' volume volume' d name (Ok tt) → IsOpen T state' volume'
+  rmdir_open state' volume' d name (Err fault, planned, none, is) = absurd none
+  rmdir_open state' volume' d name (Ok plan, planned, does, is) =
       let later : Volume = record volume { memory = ended_memory volume.memory d plan.end } in
-      let said = removed_so T state state' volume later d name known is_open.kept (Ok plan, planned, does, refl) in
+      let said = removed_so T state state' volume later d name is_open.kept (Ok plan, planned, does, refl) in
       let one = then_ok (number_in seen d name) (λ n. and_then (found seen n) (λ inode. if not (is_directory inode.content) then Err NotDir
       else when true (without_name seen volume.memory.clock d name n) NotEmpty)) (files_in state' later) said.4 in
       let two = then_ok (found seen one.0) (λ inode. if not (is_directory inode.content) then Err NotDir

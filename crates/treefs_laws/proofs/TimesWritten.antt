@@ -34,7 +34,6 @@ use Rattle.treefs_byte_plans.specs.declared.attributes.AttributesPlan.{Attribute
 use Rattle.treefs.specs.Trimming.{DoesIfAny}
 use Rattle.treefs.specs.WritingTimes.{WriteTimesDoes, WritesOne, WritesTimes, plan_of_times, times_found, times_planned}
 use Rattle.treefs.specs.declared.volume.Volume.{Volume}
-use Rattle.treefs_values.specs.KnownLayout.{IsLayout}
 use Rattle.treefs_values.specs.Kinds.{kinds}
 use Rattle.treefs_values.specs.Values.{AreChanges, KeepsBlocks, found_value}
 use Rattle.treefs_values.specs.Volumes.{IsVolume}
@@ -132,7 +131,7 @@ module _ (touch : Touched) (rest : List Touched) (files : Files) (lacks : All (�
           ap (option_map (seen_inode rest m)) here ∙ sym (ap (option_map (seen_inode (touch ∷ rest) m)) here)
       at m (inr ne) = by m ne (files m)
 
-module _ (T : Types) (tree : Tree) (known : IsLayout) where
+module _ (T : Types) (tree : Tree) where
   abbrev fs : ℕ
   fs = tree.fs.number
 
@@ -185,12 +184,12 @@ module _ (T : Types) (tree : Tree) (known : IsLayout) where
       made : IsVolume tree.node_type tree.inode_type (kinds old fs) (written act (readable old fs)) top
           × (files_of (written act (readable old fs)) top ≡ changed_at (files_at old) touch.number (with_times touch.times))
       made =
-          fields_changed tree.node_type tree.inode_type top (kinds old fs) (readable old fs) here.volume known touch.number is.number is.there (time_parts (Some touch.times))
+          fields_changed tree.node_type tree.inode_type top (kinds old fs) (readable old fs) here.volume touch.number is.number is.there (time_parts (Some touch.times))
           (times_fine (fields_of (readable old fs c)) touch.times fit) None refl refl (with_times touch.times) (times_make (fields_of (readable old fs c)) touch.times)
 
       keeps : SamePointers tree.node_type tree.inode_type (kinds old fs) (readable old fs) (written act (readable old fs))
       keeps =
-          changes_keep tree.node_type tree.inode_type top (kinds old fs) (readable old fs) here.volume known touch.number is.number is.there
+          changes_keep tree.node_type tree.inode_type top (kinds old fs) (readable old fs) here.volume touch.number is.number is.there
           (time_parts (Some touch.times)) (times_fine (fields_of (readable old fs c)) touch.times fit) None
 
       others : (b : ℕ) → HasNoNumber old b → written act (readable old fs) b ≡ readable old fs b
@@ -285,21 +284,21 @@ module _ (T : Types) (tree : Tree) (known : IsLayout) where
 
 -- The call
 
-module _ (T : Types) (state state' : StoreState) (volume volume' : Volume) (known : IsLayout) (is_open : IsOpen T state volume) where
+module _ (T : Types) (state state' : StoreState) (volume volume' : Volume) (is_open : IsOpen T state volume) where
   abbrev later : List Touched → Volume
   later left = record volume { memory = record volume.memory { touched = left } }
 
   abbrev Written : List Touched → Type 0
-  Written left = IsWritten T volume.tree known volume.memory.touched left state state'
+  Written left = IsWritten T volume.tree volume.memory.touched left state state'
 
   module _ (result : Result (Unit {0}) Fault) where
     times_done : (left : List Touched) → WritesTimes T volume.tree volume.memory.touched left state state' result → Written left
     times_done left writes =
-        all_times T volume.tree known volume.memory.touched left state state' result
+        all_times T volume.tree volume.memory.touched left state state' result
         (record { store = is_open.kept.store; root = is_open.root; volume = is_open.kept.bytes }) is_open.kept.session.once is_open.kept.session.times writes
 
     -- no type changes, and no pointer
-    pub times_steady : WriteTimesDoes T state state' volume volume' result → IsSteady T volume.tree known state state' × (volume'.tree ≡ volume.tree)
+    pub times_steady : WriteTimesDoes T state state' volume volume' result → IsSteady T volume.tree state state' × (volume'.tree ≡ volume.tree)
     times_steady (left, writes, is) = ((times_done left writes).3, ap (λ (v : Volume). v.tree) is)
 
   pub times_said : (result : Result (Unit {0}) Fault) → WriteTimesDoes T state state' volume volume' result → IsOpen T state' volume' × (files_in state' volume' ≡ files_in state volume)
@@ -315,7 +314,7 @@ module _ (T : Types) (state state' : StoreState) (volume volume' : Volume) (know
       session = record {
         once = done.1;
         clock = kept.session.clock;
-        times = all_left T volume.tree known (λ touch. AreTimes touch.times) volume.memory.touched left state state' result writes kept.session.times;
+        times = all_left T volume.tree (λ touch. AreTimes touch.times) volume.memory.touched left state state' result writes kept.session.times;
       }
 
       whole : IsOpen T state' (later left)
@@ -326,5 +325,5 @@ module _ (T : Types) (state state' : StoreState) (volume volume' : Volume) (know
         short = is_open.short;
         root = done.0.root;
         touched = subst (λ (f : Files). All (λ (touch : Touched). f touch.number ≢ None) left) (sym done.2)
-            (all_left T volume.tree known (λ touch. files_in state volume touch.number ≢ None) volume.memory.touched left state state' result writes is_open.touched);
+            (all_left T volume.tree (λ touch. files_in state volume touch.number ≢ None) volume.memory.touched left state state' result writes is_open.touched);
       }

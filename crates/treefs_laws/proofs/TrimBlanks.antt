@@ -38,7 +38,6 @@ use Rattle.treefs_byte_plans.specs.declared.blank.BlankPlan.{BlankPlan}
 use Rattle.treefs.specs.Trimming.{Blanks, DoesIfAny, plan_of_blank}
 use Rattle.treefs_values.specs.Bytes.{bucket_at, byte_over, place_in_bucket, put_within, with_put}
 use Rattle.treefs_values.specs.Kinds.{kinds}
-use Rattle.treefs_values.specs.KnownLayout.{IsLayout}
 use Rattle.treefs_values.specs.Values.{KeepsBlocks}
 use Rattle.treefs_values.specs.Volumes.{IsVolume}
 use Rattle.treefs_values.specs.Ways.{block_numbered}
@@ -101,7 +100,7 @@ module _ (f : ℕ → ℕ) (size first : ℕ) (bytes : List ℕ) (past : size �
 
 -- Bytes past the size of a file are put
 
-module _ (node inode top : ℕ) (type : ℕ → ℕ) (content : ℕ → List ℕ) (v : IsVolume node inode type content top) (known : IsLayout) (n : ℕ) (number : n ≢ 0)
+module _ (node inode top : ℕ) (type : ℕ → ℕ) (content : ℕ → List ℕ) (v : IsVolume node inode type content top) (n : ℕ) (number : n ≢ 0)
     (b_there : block_numbered content top n ≢ 0) (k : Kind) (is_kind : kind_of (fields_of (content (block_numbered content top n))).mode ≡ Some k) (no_directory : k ≢ kind.Directory)
     (first : ℕ) (bytes : List ℕ) (range : All (λ b. b < 256) bytes) (some : 0 < length bytes) (few : bucket_at first ≤ leaf_count) (fits : length bytes ≤ part_left first)
     (there : bucket_block content (block_numbered content top n) (bucket_at first) ≢ 0) (past : (fields_of (content (block_numbered content top n))).size ≤ first)
@@ -113,18 +112,18 @@ module _ (node inode top : ℕ) (type : ℕ → ℕ) (content : ℕ → List ℕ
   was = fields_of (content b)
 
   abbrev pub put : ℕ → List ℕ
-  put = put_new node inode top type content v known n number b_there bytes range some first few fits there behind
+  put = put_new node inode top type content v n number b_there bytes range some first few fits there behind
 
   pub put_numbered : block_numbered put top n ≡ b
   put_numbered = numbered_same node inode top type content put v.typed
-      (put_in node inode top type content v known n number b_there bytes range some first few fits there behind).keeps n
+      (put_in node inode top type content v n number b_there bytes range some first few fits there behind).keeps n
 
   pub put_fields : fields_of (put (block_numbered put top n)) ≡ was
   put_fields = ap (λ x. fields_of (put x)) put_numbered
-      ∙ (put_in node inode top type content v known n number b_there bytes range some first few fits there behind).fields
+      ∙ (put_in node inode top type content v n number b_there bytes range some first few fits there behind).fields
 
   pub put_volume : IsVolume node inode type put top
-  put_volume = volume_put node inode top type content v known n number b_there bytes range some first few fits there behind small k is_kind no_directory
+  put_volume = volume_put node inode top type content v n number b_there bytes range some first few fits there behind small k is_kind no_directory
 
   content_same : (k : Kind) → k ≢ kind.Directory →
       with_bytes (put_within first bytes) (content_at content (key_in content top) b was.parent k) ≡ content_at content (key_in content top) b was.parent k
@@ -147,9 +146,9 @@ module _ (node inode top : ℕ) (type : ℕ → ℕ) (content : ℕ → List ℕ
   ])
 
   pub put_files : files_of put top ≡ files_of content top
-  put_files = files_put node inode top type content v known n number b_there bytes range some first few fits there behind small k is_kind no_directory ∙ unchanged
+  put_files = files_put node inode top type content v n number b_there bytes range some first few fits there behind small k is_kind no_directory ∙ unchanged
 
-module _ (T : Types) (tree : Tree) (known : IsLayout) (n : ℕ) (number : n ≢ 0) (c size : ℕ) (k : Kind) (no_directory : k ≢ kind.Directory) where
+module _ (T : Types) (tree : Tree) (n : ℕ) (number : n ≢ 0) (c size : ℕ) (k : Kind) (no_directory : k ≢ kind.Directory) where
   abbrev fs : ℕ
   fs = tree.fs.number
 
@@ -163,10 +162,10 @@ module _ (T : Types) (tree : Tree) (known : IsLayout) (n : ℕ) (number : n ≢ 
   inode = tree.inode_type
 
   abbrev At : StoreState → Type 0
-  At s = IsFileAt T tree known n number c size k no_directory s
+  At s = IsFileAt T tree n number c size k no_directory s
 
   abbrev Stay : StoreState → StoreState → Type 0
-  Stay old new = Stays T tree known n number c size k no_directory old new
+  Stay old new = Stays T tree n number c size k no_directory old new
 
   module _ (old new : StoreState) (at : At old) (first : ℕ) (bytes : List ℕ) (range : All (λ b. b < 256) bytes) (some_bytes : 0 < length bytes) (few : bucket_at first ≤ leaf_count)
       (fits : length bytes ≤ part_left first) (there : bucket_block (readable old fs) (block_numbered (readable old fs) top n) (bucket_at first) ≢ 0) (past : size ≤ first)
@@ -195,7 +194,7 @@ module _ (T : Types) (tree : Tree) (known : IsLayout) (n : ℕ) (number : n ≢ 
     beyond = subst (λ s. s ≤ first) (sym at.size_is) past
 
     abbrev next : ℕ → List ℕ
-    next = put node inode top (kinds old fs) content v known n number b_there k at.kind_is no_directory first bytes range some_bytes few fits there beyond fine behind
+    next = put node inode top (kinds old fs) content v n number b_there k at.kind_is no_directory first bytes range some_bytes few fits there beyond fine behind
 
     keep : All KeepsBlocks (act ∷ [])
     keep = All-cons KeepsBlocks act [] refl (All-nil KeepsBlocks)
@@ -204,21 +203,21 @@ module _ (T : Types) (tree : Tree) (known : IsLayout) (n : ℕ) (number : n ≢ 
     read = acts_read T fs (act ∷ []) old new at.here.store keep ran
 
     fields : fields_of (next (block_numbered next top n)) ≡ fields_of (content in_block)
-    fields = put_fields node inode top (kinds old fs) content v known n number b_there k at.kind_is no_directory first bytes range some_bytes few fits there beyond fine behind
+    fields = put_fields node inode top (kinds old fs) content v n number b_there k at.kind_is no_directory first bytes range some_bytes few fits there beyond fine behind
 
     next_volume : IsVolume node inode (kinds old fs) next top
-    next_volume = put_volume node inode top (kinds old fs) content v known n number b_there k at.kind_is no_directory first bytes range some_bytes few fits there beyond fine behind
+    next_volume = put_volume node inode top (kinds old fs) content v n number b_there k at.kind_is no_directory first bytes range some_bytes few fits there beyond fine behind
 
     next_block : block_numbered next top n ≡ c
-    next_block = put_numbered node inode top (kinds old fs) content v known n number b_there k at.kind_is no_directory first bytes range some_bytes few fits there beyond fine behind ∙ at.block
+    next_block = put_numbered node inode top (kinds old fs) content v n number b_there k at.kind_is no_directory first bytes range some_bytes few fits there beyond fine behind ∙ at.block
 
     faded : IsFaded content next c
     faded = record {
       leaves = λ i. subst (λ x. Fades (leaf_block content x i) (leaf_block next x i)) next_block
           (leaf_fades node inode top (kinds old fs) content next next_volume n (λ z. at.there (sym next_block ∙ z))
-          (λ b o some has. inl ((put_in node inode top (kinds old fs) content v known n number b_there bytes range some_bytes first few fits there behind).keeps b o has)) i);
+          (λ b o some has. inl ((put_in node inode top (kinds old fs) content v n number b_there bytes range some_bytes first few fits there behind).keeps b o has)) i);
       bytes = λ p low. subst (λ x. Fades (byte_of content x p) (byte_of next x p)) at.block
-          (byte_fades node inode top (kinds old fs) content v known n number b_there bytes range some_bytes first few fits there behind zeros p low);
+          (byte_fades node inode top (kinds old fs) content v n number b_there bytes range some_bytes first few fits there behind zeros p low);
     }
 
     put_stays : Stay old new
@@ -235,13 +234,13 @@ module _ (T : Types) (tree : Tree) (known : IsLayout) (n : ℕ) (number : n ≢ 
         kind_is = ap (λ m. kind_of (fields_of (m (block_numbered m top n))).mode) read.1 ∙ (ap (λ (f : Fields). kind_of f.mode) fields ∙ at.kind_is);
       },
       ap (λ m. files_of m top) read.1
-          ∙ put_files node inode top (kinds old fs) content v known n number b_there k at.kind_is no_directory first bytes range some_bytes few fits there beyond fine behind,
+          ∙ put_files node inode top (kinds old fs) content v n number b_there k at.kind_is no_directory first bytes range some_bytes few fits there beyond fine behind,
       subst (λ m. IsFaded content m c) (sym read.1) faded,
     )
 
     put_clears : (p : ℕ) → p < greatest_size → first ≤ p → p < first + length bytes → byte_of (readable new fs) c p ≡ 0
     put_clears p low from to = ap (λ m. byte_of m c p) read.1 ∙ subst (λ x. byte_of next x p ≡ 0) at.block
-        (byte_cleared node inode top (kinds old fs) content v known n number b_there bytes range some_bytes first few fits there behind zeros p low from to)
+        (byte_cleared node inode top (kinds old fs) content v n number b_there bytes range some_bytes first few fits there behind zeros p low from to)
 
   -- so many zeros
   put_so : (old new : StoreState) (at : At old) (first count : ℕ) → 0 < count → bucket_at first ≤ leaf_count → count ≤ part_left first →
@@ -334,7 +333,7 @@ module _ (T : Types) (tree : Tree) (known : IsLayout) (n : ℕ) (number : n ≢ 
       (Ran T fs (blank_act plan ∷ []) old new (Ok tt) → Stay old new × Cleared new) → DoesIfAny T fs (plan_of_blank (Ok (Some plan))) old new result → Blanked old new result
   one_blank old new (Ok tt) at plan stay does = let s = stay (ran_acts T fs (blank_act plan ∷ []) old new does) in (s.0, λ done place. s.1)
   one_blank old new (Err fault) at plan stay does =
-      (stays_same T tree known n number c size k no_directory old new at (refused_whole T fs (blank_act plan) old new fault does), λ done. absurd (cc done))
+      (stays_same T tree n number c size k no_directory old new at (refused_whole T fs (blank_act plan) old new fault does), λ done. absurd (cc done))
 
   abbrev leaf_plan : StoreState → BlankPlan
   leaf_plan old = record { block = leaf_block (readable old fs) c (end / 512); offset = end % 512; behind = Some c }
@@ -350,14 +349,14 @@ module _ (T : Types) (tree : Tree) (known : IsLayout) (n : ℕ) (number : n ≢ 
           let three = and_parts (not (end % 512 == 0)) (not (blank (bytes_past (readable old fs) c end))) two.1 in
           let high : 384 < end = ltb-true 384 end one.0 in
           one_blank old new result at (leaf_plan old) (in_leaf old new at (omega arith) (ltb-true end greatest_size two.0) (not_true (blank (bytes_past (readable old fs) c end)) three.1)) does
-      in_room false is does = (stays_same T tree known n number c size k no_directory old new at does.1, λ done. absurd (cc (sym done ∙ does.0)))
+      in_room false is does = (stays_same T tree n number c size k no_directory old new at does.1, λ done. absurd (cc (sym done ∙ does.0)))
 
       tail : has_bytes_behind (readable old fs) c end ≡ false → (t : Bool) → has_tail (readable old fs) c end ≡ t →
           DoesIfAny T fs (plan_of_blank (if t then (if has_room old fs (length memory.touched) 10 (((leaf_plan old).block, 1) ∷ []) then Ok (Some (leaf_plan old)) else Err Full) else Ok None)) old new result →
           Blanked old new result
       tail none true is does = in_room (has_room old fs (length memory.touched) 10 (((leaf_plan old).block, 1) ∷ [])) is does
       tail none false is does =
-          (stays_same T tree known n number c size k no_directory old new at does.1, λ done. subst IsCleared (sym does.1) (was_cleared old new at none is))
+          (stays_same T tree n number c size k no_directory old new at does.1, λ done. subst IsCleared (sym does.1) (was_cleared old new at none is))
 
       by : (t : Bool) → has_bytes_behind (readable old fs) c end ≡ t →
           DoesIfAny T fs (plan_of_blank (if t then Ok (Some (record { block = c; offset = 128 + end; behind = None })) else

@@ -16,7 +16,6 @@ use Rattle.treefs_byte_plans.specs.Kept.{kept_of, kept_up_to}
 use Rattle.treefs_byte_plans.specs.declared.kept.Kept.{Kept}
 use Rattle.treefs.specs.Trimming.{Answers, Blanks, Drops, HasRoom, Roots, Then, TrimCallDoes, TrimDoes, TrimsFirst, Waits, kept_in, most_drops}
 use Rattle.treefs.specs.declared.volume.Volume.{Volume}
-use Rattle.treefs_values.specs.KnownLayout.{IsLayout}
 use Rattle.treefs_values.proofs.ForCallers.{IsFound, found_inode}
 use Rattle.treefs_laws.specs.Kept.{files_in}
 use Rattle.treefs_laws.specs.Open.{IsOpen}
@@ -31,7 +30,7 @@ use Rattle.treefs_laws.proofs.TrimWaits.{waits_stay}
 
 -- A whole trim, in any state of the store
 
-module _ (T : Types) (tree : Tree) (known : IsLayout) (n : ℕ) (number : n ≢ 0) (c size : ℕ) (k : Kind) (no_directory : k ≢ kind.Directory) (memory : Memory) where
+module _ (T : Types) (tree : Tree) (n : ℕ) (number : n ≢ 0) (c size : ℕ) (k : Kind) (no_directory : k ≢ kind.Directory) (memory : Memory) where
   abbrev own : ℕ
   own = tree.fs.number
 
@@ -39,32 +38,32 @@ module _ (T : Types) (tree : Tree) (known : IsLayout) (n : ℕ) (number : n ≢ 
   all_kept = kept_up_to c size
 
   abbrev At : StoreState → Type 0
-  At s = IsFileAt T tree known n number c size k no_directory s
+  At s = IsFileAt T tree n number c size k no_directory s
 
   abbrev Stay : StoreState → StoreState → Type 0
-  Stay old new = Stays T tree known n number c size k no_directory old new
+  Stay old new = Stays T tree n number c size k no_directory old new
 
   room : (old new : StoreState) (result : Result (Unit {0}) Fault) → At old → HasRoom own memory all_kept old new result → Stay old new
-  room old new result at does = stays_same T tree known n number c size k no_directory old new at does.1
+  room old new result at does = stays_same T tree n number c size k no_directory old new at does.1
 
   two : (First Next : StoreState → StoreState → Result (Unit {0}) Fault → Type 0) →
       ((old new : StoreState) (result : Result (Unit {0}) Fault) → At old → First old new result → Stay old new) →
       ((old new : StoreState) (result : Result (Unit {0}) Fault) → At old → Next old new result → Stay old new) →
       (old new : StoreState) (result : Result (Unit {0}) Fault) → At old → Then First Next old new result → Stay old new
-  two = both_stay T tree known n number c size k no_directory
+  two = both_stay T tree n number c size k no_directory
 
   pub trim_stays : (old new : StoreState) (result : Result (Unit {0}) Fault) → At old → TrimDoes T own memory (kept_up_to c size) old new result → Stay old new
   trim_stays =
       two (HasRoom own memory all_kept) (Then (Blanks T own memory all_kept) (Then (Drops T own memory all_kept most_drops) (Then (Roots T own all_kept) (Waits T own all_kept)))) room
       (two (Blanks T own memory all_kept) (Then (Drops T own memory all_kept most_drops) (Then (Roots T own all_kept) (Waits T own all_kept)))
-      (blanks_stay T tree known n number c size k no_directory memory)
+      (blanks_stay T tree n number c size k no_directory memory)
       (two (Drops T own memory all_kept most_drops) (Then (Roots T own all_kept) (Waits T own all_kept))
-      (drops_stay T tree known n number c size k no_directory all_kept.keep (byte_kept size) memory all_kept refl refl most_drops)
+      (drops_stay T tree n number c size k no_directory all_kept.keep (byte_kept size) memory all_kept refl refl most_drops)
       (two (Roots T own all_kept) (Waits T own all_kept)
-      (roots_stay T tree known n number c size k no_directory all_kept.keep (byte_kept size) all_kept refl refl)
-      (waits_stay T tree known n number c size k no_directory all_kept refl))))
+      (roots_stay T tree n number c size k no_directory all_kept.keep (byte_kept size) all_kept refl refl)
+      (waits_stay T tree n number c size k no_directory all_kept refl))))
 
-module _ (T : Types) (known : IsLayout) (state : StoreState) (volume : Volume) (is_open : IsOpen T state volume) where
+module _ (T : Types) (state : StoreState) (volume : Volume) (is_open : IsOpen T state volume) where
   abbrev fs : ℕ
   fs = volume.tree.fs.number
 
@@ -79,7 +78,7 @@ module _ (T : Types) (known : IsLayout) (state : StoreState) (volume : Volume) (
     pub some : number ≢ 0
     pub found : Found
     pub no_directory : found.kind ≢ kind.Directory
-    pub at : IsFileAt T volume.tree known number some found.block found.fields.size found.kind no_directory state
+    pub at : IsFileAt T volume.tree number some found.block found.fields.size found.kind no_directory state
     pub kept_is : kept ≡ kept_of found
 
   bytes_kind : (x found : Found) (k : Kind) → if_bytes x k ≡ Ok found → (x ≡ found) × (k ≢ kind.Directory)
@@ -124,7 +123,7 @@ module _ (T : Types) (known : IsLayout) (state : StoreState) (volume : Volume) (
   pub same_said : (new : StoreState) → new ≡ state → Said new
   same_said new same = subst Said (sym same) (is_open, refl)
 
-  pub said_of : (kept : Kept) (f : IsFile kept) (new : StoreState) → Stays T volume.tree known f.number f.some f.found.block f.found.fields.size f.found.kind f.no_directory state new → Said new
+  pub said_of : (kept : Kept) (f : IsFile kept) (new : StoreState) → Stays T volume.tree f.number f.some f.found.block f.found.fields.size f.found.kind f.no_directory state new → Said new
   said_of kept f new stays =
       let files : files_in new volume ≡ files_in state volume = ap (seen_files volume.memory.touched) stays.1 in (
         record {
@@ -141,32 +140,32 @@ module _ (T : Types) (known : IsLayout) (state : StoreState) (volume : Volume) (
   pub blanks_said : (kept : Kept) → IsKeptOf state volume kept → (new : StoreState) (result : Result (Unit {0}) Fault) → Blanks T fs volume.memory kept state new result → Said new
   blanks_said kept of new result does =
       let f = file_of kept of in
-      said_of kept f new (blanks_stay T volume.tree known f.number f.some f.found.block f.found.fields.size f.found.kind f.no_directory volume.memory state new result f.at
+      said_of kept f new (blanks_stay T volume.tree f.number f.some f.found.block f.found.fields.size f.found.kind f.no_directory volume.memory state new result f.at
       (subst (λ x. Blanks T fs volume.memory x state new result) f.kept_is does))
 
   pub drops_said : (kept : Kept) → IsKeptOf state volume kept → (left : ℕ) (new : StoreState) (result : Result (Unit {0}) Fault) → Drops T fs volume.memory kept left state new result → Said new
   drops_said kept of left new result does =
       let f = file_of kept of in
-      said_of kept f new (drops_stay T volume.tree known f.number f.some f.found.block f.found.fields.size f.found.kind f.no_directory
+      said_of kept f new (drops_stay T volume.tree f.number f.some f.found.block f.found.fields.size f.found.kind f.no_directory
       (kept_of f.found).keep (byte_kept f.found.fields.size) volume.memory kept (ap (λ x. x.inode) f.kept_is) (ap (λ x. x.keep) f.kept_is) left state new result f.at does)
 
   pub waits_said : (kept : Kept) → IsKeptOf state volume kept → (new : StoreState) (result : Result (Unit {0}) Fault) → Waits T fs kept state new result → Said new
   waits_said kept of new result does =
       let f = file_of kept of in
-      said_of kept f new (waits_stay T volume.tree known f.number f.some f.found.block f.found.fields.size f.found.kind f.no_directory kept (ap (λ x. x.inode) f.kept_is)
+      said_of kept f new (waits_stay T volume.tree f.number f.some f.found.block f.found.fields.size f.found.kind f.no_directory kept (ap (λ x. x.inode) f.kept_is)
       state new result f.at does)
 
   pub roots_said : (kept : Kept) → IsKeptOf state volume kept → (new : StoreState) (result : Result (Unit {0}) Fault) → Roots T fs kept state new result → Said new
   roots_said kept of new result does =
       let f = file_of kept of in
-      said_of kept f new (roots_stay T volume.tree known f.number f.some f.found.block f.found.fields.size f.found.kind f.no_directory
+      said_of kept f new (roots_stay T volume.tree f.number f.some f.found.block f.found.fields.size f.found.kind f.no_directory
       (kept_of f.found).keep (byte_kept f.found.fields.size) kept (ap (λ x. x.inode) f.kept_is) (ap (λ x. x.keep) f.kept_is) state new result f.at does)
 
   pub trim_said : (kept : Option Kept) → AreKeptOf state volume kept → (new : StoreState) (result : Result (Unit {0}) Fault) → TrimsFirst T fs volume.memory kept state new result → Said new
   trim_said None of new result does = same_said new does.1
   trim_said (Some kept) of new result does =
       let f = file_of kept of in
-      said_of kept f new (trim_stays T volume.tree known f.number f.some f.found.block f.found.fields.size f.found.kind f.no_directory volume.memory state new result f.at
+      said_of kept f new (trim_stays T volume.tree f.number f.some f.found.block f.found.fields.size f.found.kind f.no_directory volume.memory state new result f.at
       (subst (λ x. TrimDoes T fs volume.memory x state new result) f.kept_is does))
 
   -- The call

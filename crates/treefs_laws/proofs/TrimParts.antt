@@ -21,7 +21,6 @@ use Rattle.treefs_byte_plans.specs.declared.kept.Kept.{Kept}
 use Rattle.treefs.specs.Trimming.{Drops, Then}
 use Rattle.treefs_values.specs.Dropped.{AreDropped, AreOverPointers, IsCovered, IsHolderWay, IsLedTo, IsPast, LeadsOn, clear_act, with_blocks}
 use Rattle.treefs_values.specs.Kinds.{kinds}
-use Rattle.treefs_values.specs.KnownLayout.{IsLayout}
 use Rattle.treefs_values.specs.Volumes.{IsVolume, IsWholeBlock}
 use Rattle.treefs_values.specs.Ways.{block_numbered}
 use Rattle.treefs_values.proofs.ForCallers.{IsAt, dropped_fields, dropped_files, dropped_numbered, dropped_volume}
@@ -32,7 +31,7 @@ use Rattle.treefs_laws.proofs.NodePointers.{blocks_led, covered_at, node_places,
 use Rattle.treefs_laws.proofs.TrimSteps.{both_keep, drops_keep}
 use Rattle.treefs_laws.proofs.WaysApart.{IsInodeBlock, numbered_block}
 
-module _ (T : Types) (tree : Tree) (known : IsLayout) (n : ℕ) (number : n ≢ 0) (c size : ℕ) (k : Kind) (no_directory : k ≢ kind.Directory) where
+module _ (T : Types) (tree : Tree) (n : ℕ) (number : n ≢ 0) (c size : ℕ) (k : Kind) (no_directory : k ≢ kind.Directory) where
   abbrev fs : ℕ
   fs = tree.fs.number
 
@@ -111,30 +110,30 @@ module _ (T : Types) (tree : Tree) (known : IsLayout) (n : ℕ) (number : n ≢ 
     starts_at = numbered_block node inode top type content v n (λ z. at.there (sym at.block ∙ z))
 
     gone : AreDropped node inode type type' content later holder places
-    gone = are_cleared T tree known old new at.here (block_numbered content top n) starts_at q way there places blocks behind over led act refl refl refl refl
+    gone = are_cleared T tree old new at.here (block_numbered content top n) starts_at q way there places blocks behind over led act refl refl refl refl
         ran
 
     whole' : IsWholeBlock (later holder)
-    whole' = still_whole T tree known old new at.here (block_numbered content top n) starts_at q way there places blocks behind over led act refl refl refl
+    whole' = still_whole T tree old new at.here (block_numbered content top n) starts_at q way there places blocks behind over led act refl refl refl
         refl ran
 
     reads : readable new fs ≡ later
-    reads = clears T tree known old new at.here (block_numbered content top n) starts_at q way there places blocks behind over led act refl refl refl refl ran
+    reads = clears T tree old new at.here (block_numbered content top n) starts_at q way there places blocks behind over led act refl refl refl refl ran
 
     past' : (o : ℕ) → IsCovered places o → IsPast (fields_of (content (block_numbered content top n))).size (o ∷ q)
     past' o cover = subst (λ s. IsPast s (o ∷ q)) (sym at.size_is) (past o cover)
 
     numbered : block_numbered later top n ≡ block_numbered content top n
-    numbered = dropped_numbered node inode top type type' content later v known n number q way there places gone n
+    numbered = dropped_numbered node inode top type type' content later v n number q way there places gone n
 
     fields : fields_of (later (block_numbered later top n)) ≡ fields_of (content (block_numbered content top n))
-    fields = ap (λ x. fields_of (later x)) numbered ∙ dropped_fields node inode top type type' content later v known n number q way there places gone
+    fields = ap (λ x. fields_of (later x)) numbered ∙ dropped_fields node inode top type type' content later v n number q way there places gone
 
     volume' : IsVolume node inode type' later top
-    volume' = dropped_volume node inode top type type' content later v known n number q way there places gone k at.kind_is no_directory past' whole'
+    volume' = dropped_volume node inode top type type' content later v n number q way there places gone k at.kind_is no_directory past' whole'
 
     typed : (type holder ≡ inode) ⊎ (type holder ≡ node)
-    typed = holder_typed T tree known old new at.here (block_numbered content top n) starts_at q way there places blocks behind over led act refl refl refl
+    typed = holder_typed T tree old new at.here (block_numbered content top n) starts_at q way there places blocks behind over led act refl refl refl
         refl ran way
 
     faded : IsFaded content later c
@@ -144,14 +143,14 @@ module _ (T : Types) (tree : Tree) (known : IsLayout) (n : ℕ) (number : n ≢ 
     pub clear_stays : Stays old new
     clear_stays = (
       record {
-        here = at_then T tree known old new at.here (block_numbered content top n) starts_at q way there places blocks behind over led act refl refl refl refl
+        here = at_then T tree old new at.here (block_numbered content top n) starts_at q way there places blocks behind over led act refl refl refl refl
             ran volume';
         block = ap (λ m. block_numbered m top n) reads ∙ (numbered ∙ at.block);
         there = at.there;
         size_is = ap (λ m. (fields_of (m (block_numbered m top n))).size) reads ∙ (ap (λ f. f.size) fields ∙ at.size_is);
         kind_is = ap (λ m. kind_of (fields_of (m (block_numbered m top n))).mode) reads ∙ (ap (λ f. kind_of f.mode) fields ∙ at.kind_is);
       },
-      ap (λ m. files_of m top) reads ∙ dropped_files node inode top type type' content later v known n number q way there places gone k at.kind_is no_directory
+      ap (λ m. files_of m top) reads ∙ dropped_files node inode top type type' content later v n number q way there places gone k at.kind_is no_directory
           past',
       subst (λ m. IsFaded content m c) (sym reads) faded,
     )

@@ -24,7 +24,6 @@ use Rattle.treefs_byte_plans.specs.declared.roots_plan.RootsPlan.{RootsPlan}
 use Rattle.treefs.specs.Trimming.{DoesIfAny, Roots}
 use Rattle.treefs_values.specs.Dropped.{AreOverPointers, IsCovered, IsLedTo, LeadsOn, clear_act, zero_patch}
 use Rattle.treefs_values.specs.Kinds.{kinds}
-use Rattle.treefs_values.specs.KnownLayout.{IsLayout}
 use Rattle.treefs_values.specs.Ways.{block_numbered}
 use Rattle.treefs_values.proofs.ForCallers.{inode_pointer}
 use Rattle.treefs_laws.proofs.CutWays.{InTree, IsKeptLeaf, end_same, in_tree}
@@ -363,16 +362,16 @@ module _ (keep i o : ℕ) (kept : IsKeptLeaf keep i) (leads : LeadsOn (steps i) 
   root_not_past content c (inl (h, low, high, past, is)) = not_tree h low high past is last_step
   root_not_past content c (inr (l, low, high, is)) = not_leaf l low high is last_step
 
-module _ (T : Types) (tree : Tree) (known : IsLayout) (n : ℕ) (number : n ≢ 0) (c size : ℕ) (k : Kind) (no_directory : k ≢ kind.Directory) (keep : ℕ)
+module _ (T : Types) (tree : Tree) (n : ℕ) (number : n ≢ 0) (c size : ℕ) (k : Kind) (no_directory : k ≢ kind.Directory) (keep : ℕ)
     (kept : (b : ℕ) → 384 ≤ b → b < size → IsKeptLeaf keep (b / 512)) where
   abbrev fs : ℕ
   fs = tree.fs.number
 
   abbrev At : StoreState → Type 0
-  At s = IsFileAt T tree known n number c size k no_directory s
+  At s = IsFileAt T tree n number c size k no_directory s
 
   abbrev Stay : StoreState → StoreState → Type 0
-  Stay old new = Stays T tree known n number c size k no_directory old new
+  Stay old new = Stays T tree n number c size k no_directory old new
 
   module _ (old new : StoreState) (at : At old) where
     abbrev m : ℕ → List ℕ
@@ -392,7 +391,7 @@ module _ (T : Types) (tree : Tree) (known : IsLayout) (n : ℕ) (number : n ≢ 
     root_pointer o (inr (i, low, high, is)) = inode_pointer tree.node_type tree.inode_type (kinds old fs b) o 0 is_inode (inl (i, high, is, refl))
 
     ran_stays : Ran T fs (pointers_act b (tree_pointers m b keep) (leaf_pointers m b keep) ∷ []) old new (Ok tt) → Stay old new
-    ran_stays ran = clear_stays T tree known n number c size k no_directory old new at [] (inl refl) b_there (root_places m b keep)
+    ran_stays ran = clear_stays T tree n number c size k no_directory old new at [] (inl refl) b_there (root_places m b keep)
         (blocks_of (tree_pointers m b keep) ++ blocks_of (leaf_pointers m b keep)) None
         (All-weaker (IsRootPatch m b keep) (AreOverPointers tree.node_type tree.inode_type (kinds old fs b)) (λ p is. (is.some, λ i lt. root_pointer (p.0 + 4 * i) (is.places i lt)))
         (root_places m b keep) (all_patched m b keep))
@@ -410,11 +409,11 @@ module _ (T : Types) (tree : Tree) (known : IsLayout) (n : ℕ) (number : n ≢ 
           by : (r : Result (Unit {0}) Fault) → DoesIfAny T fs (Ok (Some (roots_plan plan))) old new r → Stay old new
           by (Ok tt) does = ran_stays (subst (λ (a : Act). Ran T fs (a ∷ []) old new (Ok tt)) acts
               (ran_acts T fs (pointers_act plan.inode plan.trees.items plan.leaves.items ∷ []) old new does))
-          by (Err fault) does = stays_same T tree known n number c size k no_directory old new at
+          by (Err fault) does = stays_same T tree n number c size k no_directory old new at
               (refused_whole T fs (pointers_act plan.inode plan.trees.items plan.leaves.items) old new fault does)
 
       roots_by : (planned : Option RootsPlan) → MatchOption planned (HasNoRoots m b keep) (IsRootsPlanned m b keep) → DoesIfAny T fs (Ok (option_map roots_plan planned)) old new result → Stay old new
-      roots_by None none does = stays_same T tree known n number c size k no_directory old new at does.1
+      roots_by None none does = stays_same T tree n number c size k no_directory old new at does.1
       roots_by (Some plan) planned does = one_act plan planned does
 
   pub roots_stay : (kept_is : Kept) → kept_is.inode ≡ c → kept_is.keep ≡ keep → (old new : StoreState) (result : Result (Unit {0}) Fault) → At old → Roots T fs kept_is old new result → Stay old new

@@ -20,7 +20,6 @@ use Rattle.treefs_edits.specs.declared.tree.Tree.{Tree}
 use Rattle.treefs_byte_plans.specs.declared.kept.Kept.{Kept}
 use Rattle.treefs.specs.Trimming.{Waits}
 use Rattle.treefs_values.specs.Kinds.{kinds}
-use Rattle.treefs_values.specs.KnownLayout.{IsLayout}
 use Rattle.treefs_values.specs.Volumes.{IsVolume}
 use Rattle.treefs_values.specs.Ways.{block_numbered}
 use Rattle.treefs_values.proofs.ForCallers.{edit_is}
@@ -28,7 +27,7 @@ use Rattle.treefs_laws.proofs.Fading.{faded_same}
 use Rattle.treefs_laws.proofs.Planned.{same_done, waits_write}
 use Rattle.treefs_laws.proofs.TrimParts.{IsFileAt, Stays, stays_same, stays_then}
 
-module _ (T : Types) (tree : Tree) (known : IsLayout) (n : ℕ) (number : n ≢ 0) (c size : ℕ) (k : Kind) (no_directory : k ≢ kind.Directory) where
+module _ (T : Types) (tree : Tree) (n : ℕ) (number : n ≢ 0) (c size : ℕ) (k : Kind) (no_directory : k ≢ kind.Directory) where
   abbrev fs : ℕ
   fs = tree.fs.number
 
@@ -36,10 +35,10 @@ module _ (T : Types) (tree : Tree) (known : IsLayout) (n : ℕ) (number : n ≢ 
   top = tree.top
 
   abbrev At : StoreState → Type 0
-  At s = IsFileAt T tree known n number c size k no_directory s
+  At s = IsFileAt T tree n number c size k no_directory s
 
   abbrev Kept_so : StoreState → StoreState → Type 0
-  Kept_so old new = Stays T tree known n number c size k no_directory old new
+  Kept_so old new = Stays T tree n number c size k no_directory old new
 
   -- its first byte is as it was
   abbrev StaysBytes : StoreState → StoreState → Type 0
@@ -86,16 +85,16 @@ module _ (T : Types) (tree : Tree) (known : IsLayout) (n : ℕ) (number : n ≢ 
 
   waits_ran : (others : List ℕ) (first : ℕ) (old new : StoreState) (result : Result (Unit {0}) Refusal) → At old → first ≡ slice_index (readable old fs c) 0 →
       Ran T fs (map (wait_act c (first ∷ [])) others) old new result → Kept_so old new
-  waits_ran [] first old new result at is ran = stays_same T tree known n number c size k no_directory old new at ran.1
+  waits_ran [] first old new result at is ran = stays_same T tree n number c size k no_directory old new at ran.1
   waits_ran (other ∷ others) first old new result at is (inl refused) = by result refused
     where
       by : (r : Result (Unit {0}) Refusal) → MatchResult r (λ x. ⊥) (λ refusal. Made T fs (wait_act c (first ∷ []) other) old new (Err refusal)) → Kept_so old new
       by (Ok done) none = absurd none
-      by (Err reason) made = stays_same T tree known n number c size k no_directory old new at
+      by (Err reason) made = stays_same T tree n number c size k no_directory old new at
           (none_done (propose_of T old fs c (edit_in (wait_act c (first ∷ []) other) old)) old new reason made)
   waits_ran (other ∷ others) first old new result at is (inr r) =
       let one = wait_one old r.1 other first r.0 at is r.2 in
-      stays_then T tree known n number c size k no_directory old r.1 new one.0
+      stays_then T tree n number c size k no_directory old r.1 new one.0
       (λ middle. waits_ran others first r.1 new result middle (is ∙ sym (ap (λ m. slice_index (m c) 0) one.1)) r.3)
 
   -- no block was begun
@@ -106,7 +105,7 @@ module _ (T : Types) (tree : Tree) (known : IsLayout) (n : ℕ) (number : n ≢ 
   waits_done : (others : List ℕ) (first : ℕ) (old new : StoreState) (result : Result (Unit {0}) Fault) → At old → first ≡ slice_index (readable old fs c) 0 →
       Does T fs (record { starts = []; acts = λ begun. map (wait_act c (first ∷ [])) others }) old new result → Kept_so old new
   waits_done others first old new (Ok done) at is (inl none) = absurd none
-  waits_done others first old new (Err fault) at is (inl (inl lacks)) = stays_same T tree known n number c size k no_directory old new at lacks.1
+  waits_done others first old new (Err fault) at is (inl (inl lacks)) = stays_same T tree n number c size k no_directory old new at lacks.1
   waits_done others first old new (Err fault) at is (inl (inr begins)) = absurd (cc begins.0)
   waits_done others first old new (Ok done) at is (inr (begun, middle, begins, ran)) =
       waits_ran others first old new (Ok done) at is (subst (λ s. Ran T fs (map (wait_act c (first ∷ [])) others) s new (Ok done)) begins.1 ran)
@@ -116,7 +115,7 @@ module _ (T : Types) (tree : Tree) (known : IsLayout) (n : ℕ) (number : n ≢ 
     where
       left_so : (left : StoreState) (reason : Refusal) → Ran T fs (map (wait_act c (first ∷ [])) others) middle left (Err reason) ⊎ ((reason ≡ refusal.NoMemory) × (left ≡ middle)) → Kept_so old left
       left_so left reason (inl ran) = waits_ran others first old left (Err reason) at is (subst (λ s. Ran T fs (map (wait_act c (first ∷ [])) others) s left (Err reason)) begins.1 ran)
-      left_so left reason (inr none) = stays_same T tree known n number c size k no_directory old left at (none.1 ∙ begins.1)
+      left_so left reason (inr none) = stays_same T tree n number c size k no_directory old left at (none.1 ∙ begins.1)
 
   pub waits_stay : (kept_is : Kept) → kept_is.inode ≡ c → (old new : StoreState) (result : Result (Unit {0}) Fault) → At old → Waits T fs kept_is old new result → Kept_so old new
   waits_stay kept_is of_inode old new result at (plan, planned, does) =

@@ -30,7 +30,6 @@ use Rattle.treefs_byte_plans.specs.declared.roots_plan.Pointer.{Pointer}
 use Rattle.treefs_byte_plans.specs.declared.roots_plan.RootsPlan.{RootsPlan}
 use Rattle.treefs.specs.Trimming.{Blanks, DoesIfAny, Drops, EndsDrops, HasRoom, Roots, Then, TrimDoes, Waits, most_drops}
 use Rattle.treefs_values.specs.Kinds.{kinds}
-use Rattle.treefs_values.specs.KnownLayout.{IsLayout}
 use Rattle.treefs_values.proofs.ForCallers.{IsDrop, drop_is}
 use Rattle.treefs_laws.proofs.CutWays.{byte_kept}
 use Rattle.treefs_laws.proofs.Fading.{Fades}
@@ -139,7 +138,7 @@ module _ (content : ℕ → List ℕ) (c : ℕ) where
 
 -- A whole trim
 
-module _ (T : Types) (tree : Tree) (known : IsLayout) (n : ℕ) (number : n ≢ 0) (c size : ℕ) (k : Kind) (no_directory : k ≢ kind.Directory) (memory : Memory)
+module _ (T : Types) (tree : Tree) (n : ℕ) (number : n ≢ 0) (c size : ℕ) (k : Kind) (no_directory : k ≢ kind.Directory) (memory : Memory)
   where
     abbrev own : ℕ
     own = tree.fs.number
@@ -151,10 +150,10 @@ module _ (T : Types) (tree : Tree) (known : IsLayout) (n : ℕ) (number : n ≢ 
     keep = all_kept.keep
 
     abbrev At : StoreState → Type 0
-    At s = IsFileAt T tree known n number c size k no_directory s
+    At s = IsFileAt T tree n number c size k no_directory s
 
     abbrev Stay : StoreState → StoreState → Type 0
-    Stay old new = Stays T tree known n number c size k no_directory old new
+    Stay old new = Stays T tree n number c size k no_directory old new
 
     -- the parts that are done
     done_then : (First Next : StoreState → StoreState → Result (Unit {0}) Fault → Type 0) (old new : StoreState) → Then First Next old new (Ok tt) →
@@ -228,7 +227,7 @@ module _ (T : Types) (tree : Tree) (known : IsLayout) (n : ℕ) (number : n ≢ 
     roots_end old new at (planned, are, does) = by planned are does
       where
         stay : Stay old new
-        stay = roots_stay T tree known n number c size k no_directory keep (byte_kept size) all_kept refl refl old new (Ok tt) at (planned, are, does)
+        stay = roots_stay T tree n number c size k no_directory keep (byte_kept size) all_kept refl refl old new (Ok tt) at (planned, are, does)
 
         by : (planned : Option RootsPlan) → MatchOption planned (HasNoRoots (readable old own) c keep) (IsRootsPlanned (readable old own) c keep) →
             DoesIfAny T own (Ok (option_map roots_plan planned)) old new (Ok tt) → (i : ℕ) → keep ≤ i → i < 16 → leaf_block (readable new own) c i ≡ 0
@@ -248,19 +247,19 @@ module _ (T : Types) (tree : Tree) (known : IsLayout) (n : ℕ) (number : n ≢ 
     trim_clears old new at does p past low =
         let a = done_then (HasRoom own memory all_kept) (Then (Blanks T own memory all_kept)
         (Then (Drops T own memory all_kept most_drops) (Then (Roots T own all_kept) (Waits T own all_kept)))) old new does in
-        let at_a : At a.0 = (stays_same T tree known n number c size k no_directory old a.0 at a.1.1).0 in
+        let at_a : At a.0 = (stays_same T tree n number c size k no_directory old a.0 at a.1.1).0 in
         let b = done_then (Blanks T own memory all_kept) (Then (Drops T own memory all_kept most_drops) (Then (Roots T own all_kept) (Waits T own all_kept)))
         a.0 new a.2 in
-        let stay_b = blanks_stay T tree known n number c size k no_directory memory a.0 b.0 (Ok tt) at_a b.1 in
-        let clear_b = blanks_clear T tree known n number c size k no_directory memory a.0 b.0 at_a b.1 in
+        let stay_b = blanks_stay T tree n number c size k no_directory memory a.0 b.0 (Ok tt) at_a b.1 in
+        let clear_b = blanks_clear T tree n number c size k no_directory memory a.0 b.0 at_a b.1 in
         let d = done_then (Drops T own memory all_kept most_drops) (Then (Roots T own all_kept) (Waits T own all_kept)) b.0 new b.2 in
-        let stay_d = drops_stay T tree known n number c size k no_directory keep (byte_kept size) memory all_kept refl refl most_drops b.0 d.0 (Ok tt)
+        let stay_d = drops_stay T tree n number c size k no_directory keep (byte_kept size) memory all_kept refl refl most_drops b.0 d.0 (Ok tt)
         stay_b.0 d.1 in
         let none_d = drops_end most_drops b.0 d.0 d.1 in
         let r = done_then (Roots T own all_kept) (Waits T own all_kept) d.0 new d.2 in
-        let stay_r = roots_stay T tree known n number c size k no_directory keep (byte_kept size) all_kept refl refl d.0 r.0 (Ok tt) stay_d.0 r.1 in
+        let stay_r = roots_stay T tree n number c size k no_directory keep (byte_kept size) all_kept refl refl d.0 r.0 (Ok tt) stay_d.0 r.1 in
         let none_r = roots_end d.0 r.0 stay_d.0 r.1 in
-        let stay_w = waits_stay T tree known n number c size k no_directory all_kept refl r.0 new (Ok tt) stay_r.0 r.2 in
+        let stay_w = waits_stay T tree n number c size k no_directory all_kept refl r.0 new (Ok tt) stay_r.0 r.2 in
         let small : size ≤ greatest_size = omega arith in
         let whole : file_end size ≡ size = omega arith in
         elim (place_past size p small past low) [

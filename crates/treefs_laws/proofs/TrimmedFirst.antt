@@ -19,7 +19,6 @@ use Rattle.treefs_byte_plans.specs.Kept.{IsTrimSought, IsUntrimmed, kept_of}
 use Rattle.treefs_byte_plans.specs.declared.kept.Kept.{Kept}
 use Rattle.treefs.specs.Trimming.{TrimDoes, TrimsFirst}
 use Rattle.treefs.specs.declared.volume.Volume.{Volume}
-use Rattle.treefs_values.specs.KnownLayout.{IsLayout}
 use Rattle.treefs_laws.specs.Open.{IsOpen}
 use Rattle.treefs_laws.proofs.Planned.{same_done, then_ok}
 use Rattle.treefs_laws.proofs.TrimOpen.{IsFileFound, found_file, trim_stays}
@@ -27,9 +26,9 @@ use Rattle.treefs_laws.proofs.TrimParts.{IsFileAt}
 use Rattle.treefs_laws.proofs.TrimZeros.{cut_clears, trim_clears}
 
 -- a file that is found, in a state of the store
-pub file_here : (T : Types) (known : IsLayout) (state : StoreState) (volume : Volume) (is_open : IsOpen T state volume) (n : ℕ) (x : Found)
-    (f : IsFileFound T known state volume is_open n x) → IsFileAt T volume.tree known n f.is.number x.block x.fields.size x.kind f.no_directory state
-file_here T known state volume is_open n x f = record {
+pub file_here : (T : Types) (state : StoreState) (volume : Volume) (is_open : IsOpen T state volume) (n : ℕ) (x : Found)
+    (f : IsFileFound T state volume is_open n x) → IsFileAt T volume.tree n f.is.number x.block x.fields.size x.kind f.no_directory state
+file_here T state volume is_open n x f = record {
   here = record { store = is_open.kept.store; root = is_open.root; volume = is_open.kept.bytes };
   block = sym f.is.block;
   there = λ z. f.is.there (sym f.is.block ∙ z);
@@ -41,7 +40,7 @@ file_here T known state volume is_open n x f = record {
 abbrev pub AreZeros : Volume → StoreState → Found → Type 0
 AreZeros volume s x = (p : ℕ) → x.fields.size ≤ p → p < greatest_size → byte_of (readable s volume.tree.fs.number) x.block p ≡ 0
 
-module _ (T : Types) (known : IsLayout) (old middle : StoreState) (volume : Volume) (open_before : IsOpen T old volume) (open_then : IsOpen T middle volume)
+module _ (T : Types) (old middle : StoreState) (volume : Volume) (open_before : IsOpen T old volume) (open_then : IsOpen T middle volume)
     (number : ℕ) where
   abbrev own : ℕ
   own = volume.tree.fs.number
@@ -65,8 +64,8 @@ module _ (T : Types) (known : IsLayout) (old middle : StoreState) (volume : Volu
   by_kind content x kind.SymbolicLink other is = is
 
   module _ (past : Bool) (x : Found) (x_is : tested past middle ≡ Ok x) where
-    x_found : IsFileFound T known middle volume open_then number x
-    x_found = found_file T known middle volume open_then number x (tested_found past middle x x_is)
+    x_found : IsFileFound T middle volume open_then number x
+    x_found = found_file T middle volume open_then number x (tested_found past middle x x_is)
 
     -- nothing was trimmed
     module _ (same : middle ≡ old) where
@@ -75,20 +74,20 @@ module _ (T : Types) (known : IsLayout) (old middle : StoreState) (volume : Volu
 
       trimmed_zeros : (file : Found) → tested past old ≡ Ok file → IsTrimmed (readable old own) file → AreZeros volume middle x
       trimmed_zeros file is trimmed =
-          let f = found_file T known old volume open_before number file (tested_found past old file is) in
+          let f = found_file T old volume open_before number file (tested_found past old file is) in
           let one : file ≡ x = same_done file x (sym is ∙ found_before) in
           subst (λ s. AreZeros volume s x) (sym same) (subst (AreZeros volume old) one
           (cut_clears (readable old own) file.block file.fields.size (by_kind (readable old own) file file.kind f.no_directory trimmed)))
 
     trim_zeros : (file : Found) → tested past old ≡ Ok file → TrimDoes T own volume.memory (kept_of file) old middle (Ok tt) → AreZeros volume middle x
     trim_zeros file is does =
-        let f = found_file T known old volume open_before number file (tested_found past old file is) in
-        let at = file_here T known old volume open_before number file f in
-        let stay = trim_stays T volume.tree known number f.is.number file.block file.fields.size file.kind f.no_directory volume.memory old middle (Ok tt)
+        let f = found_file T old volume open_before number file (tested_found past old file is) in
+        let at = file_here T old volume open_before number file f in
+        let stay = trim_stays T volume.tree number f.is.number file.block file.fields.size file.kind f.no_directory volume.memory old middle (Ok tt)
         at does in
         let block : file.block ≡ x.block = sym stay.0.block ∙ sym x_found.is.block in
         let size : file.fields.size ≡ x.fields.size = sym stay.0.size_is ∙ ap (λ g. g.size) (sym x_found.is.fields) in
-        let zeros = trim_clears T volume.tree known number f.is.number file.block file.fields.size file.kind f.no_directory volume.memory old middle at does in
+        let zeros = trim_clears T volume.tree number f.is.number file.block file.fields.size file.kind f.no_directory volume.memory old middle at does in
         λ p low high. subst (λ b. byte_of (readable middle own) b p ≡ 0) block (zeros p (subst (λ s. s ≤ p) (sym size) low) high)
 
     trims_none : (kept : Option Kept) → kept ≡ None → TrimsFirst T own volume.memory kept old middle (Ok tt) → middle ≡ old

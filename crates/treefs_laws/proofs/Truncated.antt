@@ -14,6 +14,7 @@ use Rattle.treefs_format.specs.declared.fields.Change.TheVariants.{Ctime, Mtime,
 use Rattle.treefs_format.specs.declared.fields.Fields.{Fields}
 use Rattle.treefs_format.specs.declared.kind.Kind.{Kind}
 use Rattle.treefs_format.specs.declared.kind.Kind.TheVariants as kind
+use Rattle.treefs_format.proofs.ForCallers.{fields_made}
 use Rattle.treefs_model.specs.Acts.{changes_act, patch_act}
 use Rattle.treefs_model.specs.Changes.{resized, with_bytes}
 use Rattle.treefs_model.specs.Files.{Content, File, Inode, SymbolicLink, changed_at}
@@ -23,7 +24,6 @@ use Rattle.treefs_edits.specs.Written.{written}
 use Rattle.treefs_edits.specs.declared.times.Times.{Times}
 use Rattle.treefs_byte_plans.specs.Fields.{size_changes}
 use Rattle.treefs_byte_plans.specs.Sizes.{changed_size}
-use Rattle.treefs_values.specs.KnownLayout.{IsLayout}
 use Rattle.treefs_values.specs.Values.{AreChanges}
 use Rattle.treefs_values.specs.Volumes.{IsVolume}
 use Rattle.treefs_values.specs.Ways.{block_numbered}
@@ -89,7 +89,7 @@ module _ (was : Fields) (size : ℕ) (time : ℤ) (fits : FitsSigned w64 time) (
 
 -- The inode's edit, without the zeros behind it
 
-module _ (node inode top : ℕ) (type : ℕ → ℕ) (content : ℕ → List ℕ) (v : IsVolume node inode type content top) (known : IsLayout) (n : ℕ) (number : n ≢ 0)
+module _ (node inode top : ℕ) (type : ℕ → ℕ) (content : ℕ → List ℕ) (v : IsVolume node inode type content top) (n : ℕ) (number : n ≢ 0)
     (there : block_numbered content top n ≢ 0) (size : ℕ) (time : ℤ) (fits : FitsSigned w64 time) (few : size < 2 ^ 64) (k : Kind)
     (is_kind : kind_of (fields_of (content (block_numbered content top n))).mode ≡ Some k) (no_directory : k ≢ kind.Directory) where
   abbrev b : ℕ
@@ -114,7 +114,7 @@ module _ (node inode top : ℕ) (type : ℕ → ℕ) (content : ℕ → List ℕ
   to_size x = record x { mtime = time; ctime = time; content = with_bytes (λ bytes. bytes_from content b 0 size) x.content }
 
   made : IsVolume node inode type sized top × (files_of sized top ≡ changed_at (files_of content top) n to_size)
-  made = file_resized node inode top type content v known n number there list fine None k is_kind no_directory (now_kind was size time fits few o) (now_parent was size time fits few o)
+  made = file_resized node inode top type content v n number there list fine None k is_kind no_directory (now_kind was size time fits few o) (now_parent was size time fits few o)
       to_size (λ x. now_inode was size time fits few o (with_bytes (λ bytes. bytes_from content b 0 (now was size time fits few o).size) x)
       ∙ ap (λ s. record (inode_with was x) { mtime = time; ctime = time; content = with_bytes (λ bytes. bytes_from content b 0 s) x }) (now_size was size time fits few))
 
@@ -122,13 +122,13 @@ module _ (node inode top : ℕ) (type : ℕ → ℕ) (content : ℕ → List ℕ
   sized_volume = made.0
 
   pub sized_numbered : block_numbered sized top n ≡ b
-  sized_numbered = numbered_same node inode top type content sized v.typed (changes_keep node inode top type content v known n number there list fine None) n
+  sized_numbered = numbered_same node inode top type content sized v.typed (changes_keep node inode top type content v n number there list fine None) n
 
   sized_fields : fields_of (sized b) ≡ now was size time fits few o
   sized_fields =
       let one = fine 0 [] (omega arith) in
       ap (λ t. fields_of (if t then patched (content b) (map changes_patch list) else content b)) (eq-eqb b b refl)
-      ∙ known.changes_made (content b) (size_changes o (record { mtime = time; ctime = time })) (v.blocks b (λ z. v.some_types.1 (sym (v.typed.inodes n there) ∙ z))).0 one.0 one.1
+      ∙ fields_made (content b) (size_changes o (record { mtime = time; ctime = time })) (v.blocks b (λ z. v.some_types.1 (sym (v.typed.inodes n there) ∙ z))).0 one.0 one.1
 
   pub sized_size : (fields_of (sized (block_numbered sized top n))).size ≡ size
   sized_size = ap (λ x. (fields_of (sized x)).size) sized_numbered ∙ (ap (λ (g : Fields). g.size) sized_fields ∙ now_size was size time fits few)

@@ -47,7 +47,6 @@ use Rattle.treefs.specs.Trimming.{TrimsFirst}
 use Rattle.treefs.specs.declared.volume.Volume.{Volume}
 use Rattle.treefs_values.specs.Bytes.{bucket_at, place_in_bucket}
 use Rattle.treefs_values.specs.Kinds.{kinds}
-use Rattle.treefs_values.specs.KnownLayout.{IsLayout}
 use Rattle.treefs_values.specs.Values.{KeepsBlocks}
 use Rattle.treefs_values.specs.Volumes.{IsVolume}
 use Rattle.treefs_values.specs.Ways.{block_numbered}
@@ -70,29 +69,29 @@ use Rattle.treefs_laws.proofs.Truncated.{bytes_then, sized, sized_files, sized_k
 
 -- The size is set, with zeros behind it
 
-module _ (node inode top : ℕ) (type : ℕ → ℕ) (content : ℕ → List ℕ) (v : IsVolume node inode type content top) (known : IsLayout) (n : ℕ) (number : n ≢ 0)
+module _ (node inode top : ℕ) (type : ℕ → ℕ) (content : ℕ → List ℕ) (v : IsVolume node inode type content top) (n : ℕ) (number : n ≢ 0)
     (there : block_numbered content top n ≢ 0) (size : ℕ) (time : ℤ) (fits : FitsSigned w64 time) (few : size < 2 ^ 64) (k : Kind)
     (is_kind : kind_of (fields_of (content (block_numbered content top n))).mode ≡ Some k) (no_directory : k ≢ kind.Directory) where
   abbrev b : ℕ
   b = block_numbered content top n
 
   abbrev first : ℕ → List ℕ
-  first = sized node inode top type content v known n number there size time fits few k is_kind no_directory
+  first = sized node inode top type content v n number there size time fits few k is_kind no_directory
 
   pub record IsSizeSet (m : ℕ → List ℕ) : Type 0 where
     pub volume : IsVolume node inode type m top
     pub numbered : block_numbered m top n ≡ block_numbered content top n
     pub size_is : (fields_of (m (block_numbered m top n))).size ≡ size
     pub kind_so : kind_of (fields_of (m (block_numbered m top n))).mode ≡ Some k
-    pub files : files_of m top ≡ changed_at (files_of content top) n (to_size node inode top type content v known n number there size time fits few k is_kind no_directory)
+    pub files : files_of m top ≡ changed_at (files_of content top) n (to_size node inode top type content v n number there size time fits few k is_kind no_directory)
 
   set_first : IsSizeSet first
   set_first = record {
-    volume = sized_volume node inode top type content v known n number there size time fits few k is_kind no_directory;
-    numbered = sized_numbered node inode top type content v known n number there size time fits few k is_kind no_directory;
-    size_is = sized_size node inode top type content v known n number there size time fits few k is_kind no_directory;
-    kind_so = sized_kind node inode top type content v known n number there size time fits few k is_kind no_directory;
-    files = sized_files node inode top type content v known n number there size time fits few k is_kind no_directory;
+    volume = sized_volume node inode top type content v n number there size time fits few k is_kind no_directory;
+    numbered = sized_numbered node inode top type content v n number there size time fits few k is_kind no_directory;
+    size_is = sized_size node inode top type content v n number there size time fits few k is_kind no_directory;
+    kind_so = sized_kind node inode top type content v n number there size time fits few k is_kind no_directory;
+    files = sized_files node inode top type content v n number there size time fits few k is_kind no_directory;
   }
 
   none_written : written (patch_act b [] None) first ≡ first
@@ -121,15 +120,15 @@ module _ (node inode top : ℕ) (type : ℕ → ℕ) (content : ℕ → List ℕ
       let block_there : bucket_block first (block_numbered first top n) (bucket_at size) ≢ 0 = λ z. there (is_block ∙ z) in
       subst (λ (a : Act). IsSizeSet (written a first)) (sym (λ j. patch_act (is_block j) (one_patch (bucket_start (sym bucket j) + sym at_place j) (replicate (512 - (128 + size)) 0)) None))
       (record {
-        volume = put_volume node inode top type first s.volume known n number b_there k s.kind_so no_directory size
+        volume = put_volume node inode top type first s.volume n number b_there k s.kind_so no_directory size
             (replicate (512 - (128 + size)) 0) range some few_buckets room block_there past small None;
-        numbered = put_numbered node inode top type first s.volume known n number b_there k s.kind_so no_directory size
+        numbered = put_numbered node inode top type first s.volume n number b_there k s.kind_so no_directory size
             (replicate (512 - (128 + size)) 0) range some few_buckets room block_there past small None ∙ s.numbered;
-        size_is = ap (λ (f : Fields). f.size) (put_fields node inode top type first s.volume known n number b_there k s.kind_so no_directory size
+        size_is = ap (λ (f : Fields). f.size) (put_fields node inode top type first s.volume n number b_there k s.kind_so no_directory size
             (replicate (512 - (128 + size)) 0) range some few_buckets room block_there past small None) ∙ s.size_is;
-        kind_so = ap (λ (f : Fields). kind_of f.mode) (put_fields node inode top type first s.volume known n number b_there k s.kind_so no_directory size
+        kind_so = ap (λ (f : Fields). kind_of f.mode) (put_fields node inode top type first s.volume n number b_there k s.kind_so no_directory size
             (replicate (512 - (128 + size)) 0) range some few_buckets room block_there past small None) ∙ s.kind_so;
-        files = put_files node inode top type first s.volume known n number b_there k s.kind_so no_directory size
+        files = put_files node inode top type first s.volume n number b_there k s.kind_so no_directory size
             (replicate (512 - (128 + size)) 0) range some few_buckets room block_there past small None ∙ s.files;
       })
 
@@ -145,7 +144,7 @@ module _ (node inode top : ℕ) (type : ℕ → ℕ) (content : ℕ → List ℕ
 
 -- In a state of the store
 
-module _ (T : Types) (known : IsLayout) (state : StoreState) (volume : Volume) (is_open : IsOpen T state volume) (n : ℕ) (x : Found)
+module _ (T : Types) (state : StoreState) (volume : Volume) (is_open : IsOpen T state volume) (n : ℕ) (x : Found)
     (x_is : file_found (readable state volume.tree.fs.number) volume.tree.top n ≡ Ok x) (size : ℕ) (small : size ≤ greatest_size)
     (zeros : (p : ℕ) → x.fields.size ≤ p → p < size → byte_of (readable state volume.tree.fs.number) x.block p ≡ 0) where
   abbrev fs : ℕ
@@ -166,8 +165,8 @@ module _ (T : Types) (known : IsLayout) (state : StoreState) (volume : Volume) (
   abbrev clock : ℤ
   clock = volume.memory.clock
 
-  pub file_there : IsFileFound T known state volume is_open n x
-  file_there = found_file T known state volume is_open n x x_is
+  pub file_there : IsFileFound T state volume is_open n x
+  file_there = found_file T state volume is_open n x x_is
 
   pub found_there : IsFound content top n x
   found_there = file_there.is
@@ -176,19 +175,19 @@ module _ (T : Types) (known : IsLayout) (state : StoreState) (volume : Volume) (
   few = omega arith
 
   abbrev IsSet : (ℕ → List ℕ) → Type 0
-  IsSet m = IsSizeSet volume.tree.node_type volume.tree.inode_type top type content is_open.kept.bytes known n found_there.number
+  IsSet m = IsSizeSet volume.tree.node_type volume.tree.inode_type top type content is_open.kept.bytes n found_there.number
       found_there.there size clock is_open.kept.session.clock few x.kind found_there.kind file_there.no_directory m
 
   abbrev after : Inode → Inode
-  after = to_size volume.tree.node_type volume.tree.inode_type top type content is_open.kept.bytes known n found_there.number
+  after = to_size volume.tree.node_type volume.tree.inode_type top type content is_open.kept.bytes n found_there.number
       found_there.there size clock is_open.kept.session.clock few x.kind found_there.kind file_there.no_directory
 
   abbrev was_value : Inode
-  was_value = value volume.tree.node_type volume.tree.inode_type top type content is_open.kept.bytes known n found_there.number
+  was_value = value volume.tree.node_type volume.tree.inode_type top type content is_open.kept.bytes n found_there.number
       found_there.there size clock is_open.kept.session.clock few x.kind found_there.kind file_there.no_directory
 
   value_there : files_of content top n ≡ Some was_value
-  value_there = value_is volume.tree.node_type volume.tree.inode_type top type content is_open.kept.bytes known n found_there.number
+  value_there = value_is volume.tree.node_type volume.tree.inode_type top type content is_open.kept.bytes n found_there.number
       found_there.there size clock is_open.kept.session.clock few x.kind found_there.kind file_there.no_directory
 
   abbrev plan : SizePlan
@@ -220,7 +219,7 @@ module _ (T : Types) (known : IsLayout) (state : StoreState) (volume : Volume) (
 
     is_set : IsSet (readable set fs)
     is_set = subst IsSet (sym (read.1 ∙ ap (λ a. written a content) act_is))
-        (parts_set volume.tree.node_type volume.tree.inode_type top type content is_open.kept.bytes known n found_there.number
+        (parts_set volume.tree.node_type volume.tree.inode_type top type content is_open.kept.bytes n found_there.number
         found_there.there size clock is_open.kept.session.clock few x.kind found_there.kind file_there.no_directory
         (blank_from content x size) blanks)
 
@@ -230,7 +229,7 @@ module _ (T : Types) (known : IsLayout) (state : StoreState) (volume : Volume) (
     set_volume : IsVolume volume.tree.node_type volume.tree.inode_type (kinds set fs) (readable set fs) top
     set_volume = subst (λ t. IsVolume volume.tree.node_type volume.tree.inode_type t (readable set fs) top) (sym read.2) is_set.volume
 
-    pub set_at : IsFileAt T volume.tree known n found_there.number x.block size x.kind file_there.no_directory set
+    pub set_at : IsFileAt T volume.tree n found_there.number x.block size x.kind file_there.no_directory set
     set_at = record {
       here = record { store = read.0; root = root; volume = set_volume };
       block = is_set.numbered ∙ sym found_there.block;
@@ -251,7 +250,7 @@ module _ (T : Types) (known : IsLayout) (state : StoreState) (volume : Volume) (
           ctime = (written_now n (record { mtime = clock; ctime = clock }) (record { mtime = clock; ctime = clock }) volume.memory.touched is_open.kept.session.once j).ctime;
         })
         ∙ ap (λ y. record was_value { mtime = clock; ctime = clock; content = y })
-        (bytes_then volume.tree.node_type volume.tree.inode_type top type content is_open.kept.bytes known n found_there.number
+        (bytes_then volume.tree.node_type volume.tree.inode_type top type content is_open.kept.bytes n found_there.number
         found_there.there size clock is_open.kept.session.clock few x.kind found_there.kind file_there.no_directory
         (λ p low high. subst (λ b. byte_of content b p ≡ 0) found_there.block (zeros p (subst (λ s. s ≤ p) (sym (ap (λ (g : Fields). g.size) found_there.fields)) low) high))))
 
@@ -290,7 +289,7 @@ module _ (T : Types) (known : IsLayout) (state : StoreState) (volume : Volume) (
           by : (t : Bool) → TrimsFirst T fs later.memory (if t then Some (kept_up_to x.block size) else None) set new result → IsOpen T new later × (files_in new later ≡ files_in set later)
           by false does = subst (λ s. IsOpen T s later × (files_in s later ≡ files_in set later)) (sym does.1) (set_open, refl)
           by true does =
-              let s = trim_stays T volume.tree known n found_there.number x.block size x.kind file_there.no_directory later.memory set new result set_at does in
+              let s = trim_stays T volume.tree n found_there.number x.block size x.kind file_there.no_directory later.memory set new result set_at does in
               let files : files_in new later ≡ files_in set later = ap (seen_files left) s.1 in (
                 record {
                   kept = record { store = s.0.here.store; bytes = s.0.here.volume; session = set_open.kept.session };
@@ -324,7 +323,7 @@ module _ (T : Types) (known : IsLayout) (state : StoreState) (volume : Volume) (
 
 -- The call
 
-module _ (T : Types) (known : IsLayout) (old : StoreState) (volume : Volume) (is_open : IsOpen T old volume) (number size : ℕ) where
+module _ (T : Types) (old : StoreState) (volume : Volume) (is_open : IsOpen T old volume) (number size : ℕ) where
   abbrev own : ℕ
   own = volume.tree.fs.number
 
@@ -359,7 +358,7 @@ module _ (T : Types) (known : IsLayout) (old : StoreState) (volume : Volume) (is
           by (Err fault) err does = failed fault err v (refused_whole T own (size_act plan) middle new fault does)
       size_done (inr (set, does, v, trims)) =
           let ran = ran_acts T own (size_act plan ∷ []) middle set does in
-          let said = sized_said T known middle volume open_there number x x_is size small (λ p low high. past p low (omega arith)) set
+          let said = sized_said T middle volume open_there number x x_is size small (λ p low high. past p low (omega arith)) set
           (subst (λ p. Ran T own (size_act p ∷ []) middle set (Ok tt)) (sym plan_is) ran) new result
           (subst (λ p. TrimsFirst T own (changed_volume volume number true).memory p.trimmed_then set new result) (sym plan_is)
           (subst (λ w. TrimsFirst T own w.memory plan.trimmed_then set new result) v trims)) in
@@ -385,11 +384,11 @@ module _ (T : Types) (known : IsLayout) (old : StoreState) (volume : Volume) (is
       by : (r : Result (Unit {0}) Fault) → MatchResult r (λ done. ⊥) (λ fault. TrimsFirst T own volume.memory kept old new (Err fault)) → Ends new volume' r
       by (Ok done) none = absurd none
       by (Err fault) trims =
-          let s = trim_said T known old volume is_open kept (truncate_sought old volume number size kept sought) new (Err fault) trims in inl (fault, refl, v, s.0, s.1)
+          let s = trim_said T old volume is_open kept (truncate_sought old volume number size kept sought) new (Err fault) trims in inl (fault, refl, v, s.0, s.1)
   truncate_ends new volume' result (kept, sought, inr (middle, trims, does)) =
-      let s = trim_said T known old volume is_open kept (truncate_sought old volume number size kept sought) middle (Ok tt) trims in
+      let s = trim_said T old volume is_open kept (truncate_sought old volume number size kept sought) middle (Ok tt) trims in
       size_ends middle new volume' result s.0 s.1
-      (λ x x_is. sought_zeros T known old middle volume is_open s.0 number (nat_lt greatest_size size) x x_is (λ file. true) kept trims refl sought) does
+      (λ x x_is. sought_zeros T old middle volume is_open s.0 number (nat_lt greatest_size size) x x_is (λ file. true) kept trims refl sought) does
 
   pub truncate_done : (new : StoreState) (volume' : Volume) → TruncateDoes T old new volume volume' number size (Ok tt) →
       IsOpen T new volume' × (truncated (files_in old volume) volume.memory.clock number size ≡ Ok (files_in new volume'))

@@ -21,7 +21,6 @@ use Rattle.treefs_name_plans.specs.declared.ended.Ended.{Ended}
 use Rattle.treefs.specs.Remembered.{ended_memory}
 use Rattle.treefs.specs.Unlinking.{UnlinkDoes}
 use Rattle.treefs.specs.declared.volume.Volume.{Volume}
-use Rattle.treefs_values.specs.KnownLayout.{IsLayout}
 use Rattle.treefs_values.specs.Values.{KeepsBlocks}
 use Rattle.treefs_values.proofs.ForCallers.{acts_read}
 use Rattle.treefs_laws.specs.Kept.{IsKept, files_in}
@@ -74,7 +73,7 @@ not_directory content key block parent kind.Directory ne = absurd (ne refl)
 not_directory content key block parent kind.File ne = refl
 not_directory content key block parent kind.SymbolicLink ne = refl
 
-module _ (T : Types) (state state' : StoreState) (volume volume' : Volume) (d : ℕ) (name : List ℕ) (known : IsLayout) (kept : IsKept T state volume) where
+module _ (T : Types) (state state' : StoreState) (volume volume' : Volume) (d : ℕ) (name : List ℕ) (kept : IsKept T state volume) where
   abbrev fs : ℕ
   fs = volume.tree.fs.number
 
@@ -100,14 +99,14 @@ module _ (T : Types) (state state' : StoreState) (volume volume' : Volume) (d : 
       sym (is ∙ ap (λ end. record volume { memory = ended_memory volume.memory d end }) end_is) in
       let done = without_name seen volume.memory.clock d name ended.slot.number in
       subst Said later_is (
-        ended_kept T state state' volume known kept d name ended at.0 at.1 plan.behind read,
+        ended_kept T state state' volume kept d name ended at.0 at.1 plan.behind read,
         ap (λ r. and_then r (λ n. and_then (found seen n) (λ inode. if is_directory inode.content then Err IsDir else Ok (without_name seen volume.memory.clock d name n))))
-            (number_is T state state' volume known kept d name ended at.0 at.1 plan.behind)
+            (number_is T state state' volume kept d name ended at.0 at.1 plan.behind)
             ∙ (ap (λ r. and_then r (λ inode. if is_directory inode.content then Err IsDir else Ok done))
-            (inode_seen T state state' volume known kept d name ended at.0 at.1 plan.behind)
+            (inode_seen T state state' volume kept d name ended at.0 at.1 plan.behind)
             ∙ (ap (λ b. if b then Err IsDir else Ok done)
             (not_directory (readable state fs) (key_in (readable state fs) volume.tree.top) ended.inode.block ended.inode.fields.parent ended.inode.kind no_directory)
-            ∙ ap Ok (sym (ended_files T state state' volume known kept d name ended at.0 at.1 plan.behind read)))),
+            ∙ ap Ok (sym (ended_files T state state' volume kept d name ended at.0 at.1 plan.behind read)))),
       )
 
   pub unlinked_so : UnlinkDoes T state state' volume volume' d name (Ok tt) → Said volume'

@@ -5,9 +5,9 @@ use Rattle.std.specs.Prelude.{All, IsTrue, nat_lt, ◌==◌}
 use Rattle.std.proofs.lemmas.Bool.{and_parts, cases_eq, eqb-true, ltb-false, ltb-true, or_cases}
 use Rattle.std.proofs.lemmas.List.Elements.{All-cons, All-nil}
 use Rattle.treefs_format.specs.Paths.{height_of, leaf_count, leaf_offset, place_in_tree, places, steps, tree_steps}
+use Rattle.treefs_format.proofs.ForCallers.{paths_once}
 use Rattle.treefs_model.specs.Reading.{block_at, files_of, inode_block, inode_of, key_in, leaf_block, pointed}
 use Rattle.treefs_model.specs.Trees.{has_pointer, is_inode_offset, is_node_offset}
-use Rattle.treefs_values.specs.KnownLayout.{IsLayout}
 use Rattle.treefs_values.specs.Volumes.{IsVolume}
 use Rattle.treefs_values.specs.Ways.{IsFirst, IsWay, block_numbered}
 use Rattle.treefs_values.proofs.ForCallers.{counted, inode_numbered, inode_pointer, node_pointer, tree_way}
@@ -176,20 +176,19 @@ module _ (node inode top : ℕ) (type : ℕ → ℕ) (content : ℕ → List ℕ
       by [] way is = absurd way
       by (o ∷ os) way is = unled (at top os) o (way_pointer top top_block 0 o os way (above (at top os) o (λ z. some (sym is ∙ z)))) is
 
-  module _ (f : IsLayout) where
-    pub inodes_apart : (n m : ℕ) → block n ≢ 0 → block n ≡ block m → n ≡ m
-    inodes_apart n m some same = elim (cases_eq n 0) [
-      | inl z ↦ elim (cases_eq m 0) [
-        | inl y ↦ z ∙ sym y
-        | inr there ↦ absurd (no_top m there (λ x. some (same ∙ x)) (sym same ∙ ap block z))
-      ]
-      | inr there ↦ elim (cases_eq m 0) [
-        | inl y ↦ absurd (no_top n there some (same ∙ ap block y))
-        | inr there' ↦
-            let a = numbered_leaf n there some in
-            let b = numbered_leaf m there' (λ x. some (same ∙ x)) in
-            let e = below_root n top top_block 0 (steps (m - 1)) there some (steps_way (m - 1)) (same ∙ b.leaf) in
-            let g : n - 1 ≡ m - 1 = f.paths_once (n - 1) (m - 1) a.few b.few e.1 in
-            omega arith
-      ]
+  pub inodes_apart : (n m : ℕ) → block n ≢ 0 → block n ≡ block m → n ≡ m
+  inodes_apart n m some same = elim (cases_eq n 0) [
+    | inl z ↦ elim (cases_eq m 0) [
+      | inl y ↦ z ∙ sym y
+      | inr there ↦ absurd (no_top m there (λ x. some (same ∙ x)) (sym same ∙ ap block z))
     ]
+    | inr there ↦ elim (cases_eq m 0) [
+      | inl y ↦ absurd (no_top n there some (same ∙ ap block y))
+      | inr there' ↦
+          let a = numbered_leaf n there some in
+          let b = numbered_leaf m there' (λ x. some (same ∙ x)) in
+          let e = below_root n top top_block 0 (steps (m - 1)) there some (steps_way (m - 1)) (same ∙ b.leaf) in
+          let g : n - 1 ≡ m - 1 = paths_once (n - 1) (m - 1) a.few b.few e.1 in
+          omega arith
+    ]
+  ]

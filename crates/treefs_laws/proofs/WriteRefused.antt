@@ -23,13 +23,11 @@ use Rattle.treefs_byte_plans.specs.Writes.{Step, first_piece, write_planned}
 use Rattle.treefs.specs.Writing.{StepDoes, WriteDoes}
 use Rattle.treefs.specs.declared.volume.Volume.{Volume}
 use Rattle.treefs_values.specs.Bytes.{with_put}
-use Rattle.treefs_values.specs.KnownLayout.{IsLayout}
 use Rattle.treefs_laws.specs.Kept.{files_in}
 use Rattle.treefs_laws.specs.Open.{IsOpen}
 use Rattle.treefs_laws.specs.Overwriting.{IsPartlyPut}
 use Rattle.treefs_laws.specs.Reading.{HasFewBytes}
 use Rattle.treefs_laws.specs.Refusals.{IsOfStore}
-use Rattle.treefs_laws.proofs.Attaching.{AreAttached}
 use Rattle.treefs_laws.proofs.PiecesWritten.{leaf_refused}
 use Rattle.treefs_laws.proofs.RefusedNames.{does_refused}
 use Rattle.treefs_laws.proofs.RunWritten.{run_refused}
@@ -38,7 +36,7 @@ use Rattle.treefs_laws.proofs.TrimOpen.{trim_said}
 use Rattle.treefs_laws.proofs.TrimSought.{write_sought}
 use Rattle.treefs_laws.proofs.WriteSteps.{IsStep, counts_beside, counts_enough, is_ready, size_few}
 
-module _ (laws : AreAttached) (T : Types) (known : IsLayout) (old : StoreState) (volume : Volume) (is_open : IsOpen T old volume) (number at : ℕ)
+module _ (T : Types) (old : StoreState) (volume : Volume) (is_open : IsOpen T old volume) (number at : ℕ)
     (bytes : List ℕ)
     (few : HasFewBytes (files_in old volume) number) (wide : All (λ b. b < 256) bytes) (fault : Fault) where
   abbrev own : ℕ
@@ -73,7 +71,7 @@ module _ (laws : AreAttached) (T : Types) (known : IsLayout) (old : StoreState) 
     module _ (x : Found) (x_is : file_found (readable middle own) volume.tree.top number ≡ Ok x) (low : at < greatest_size)
         (zeros : length bytes ≢ 0 → (p : ℕ) → x.fields.size ≤ p → p < at → byte_of (readable middle own) x.block p ≡ 0) where
       small : x.fields.size ≤ greatest_size
-      small = size_few T known middle volume open_there number x x_is (subst (λ g. HasFewBytes g number) (sym same) few)
+      small = size_few T middle volume open_there number x x_is (subst (λ g. HasFewBytes g number) (sym same) few)
 
       abbrev Takes_so : Step → Type 0
       Takes_so step = StepDoes T middle new volume volume' number bytes (Ok step) (Err fault)
@@ -93,7 +91,7 @@ module _ (laws : AreAttached) (T : Types) (known : IsLayout) (old : StoreState) 
             acts = λ begun. bytes_act leaf (at % 512) (first_piece at bytes) None
                 ∷ size_acts x.block leaf (risen x.fields.size (at + length (first_piece at bytes))) (times_now volume.memory);
           } in
-          elim (leaf_refused T known middle volume open_there number x x_is small at low (zeros some) bytes some wide high there new fault now.0) [
+          elim (leaf_refused T middle volume open_there number x x_is small at low (zeros some) bytes some wide high there new fault now.0) [
             | inl kept ↦ same_left now.1 kept
             | inr put ↦ put_left now.1 (does_refused T own leaf_plan middle new fault now.0) put.0 (part_left at) put.1
           ]
@@ -101,23 +99,23 @@ module _ (laws : AreAttached) (T : Types) (known : IsLayout) (old : StoreState) 
           let now = subst Takes_so is does in
           let counts = counts_beside r.count (last_beside (at / 512)) (at / 512) ((at % 512 + length bytes) / 512 + min 1 ((at % 512 + length bytes) % 512))
           r.some r.few in
-          let left = run_refused laws T known middle volume open_there number x x_is small at low (zeros some) bytes some wide high none r.count r.some counts.0
+          let left = run_refused T middle volume open_there number x x_is small at low (zeros some) bytes some wide high none r.count r.some counts.0
           (counts_enough r.count (at % 512 + length bytes) r.some counts.1) r.missing new fault
           (subst (λ p. Does T own (run_plan bytes p) middle new (Err fault)) r.plan_is now.0) in
           put_left now.1 (does_refused T own (run_plan bytes plan) middle new fault now.0) left.0 left.1 left.2
 
   pub write_refused : (new : StoreState) (volume' : Volume) → WriteDoes T old new volume volume' number at bytes (Err fault) → Left new volume'
   write_refused new volume' (kept, sought, inl (trims, v)) =
-      let s = trim_said T known old volume is_open kept (write_sought old volume number at (length bytes) kept sought) new (Err fault) trims in
+      let s = trim_said T old volume is_open kept (write_sought old volume number at (length bytes) kept sought) new (Err fault) trims in
       (v, s.0, inl s.1)
   write_refused new volume' (kept, sought, inr (middle, trims, does)) = by (write_planned middle volume.tree volume.memory number at bytes) refl does
     where
       s : IsOpen T middle volume × (files_in middle volume ≡ files_in old volume)
-      s = trim_said T known old volume is_open kept (write_sought old volume number at (length bytes) kept sought) middle (Ok tt) trims
+      s = trim_said T old volume is_open kept (write_sought old volume number at (length bytes) kept sought) middle (Ok tt) trims
 
       by : (r : Result Step Fault) → write_planned middle volume.tree volume.memory number at bytes ≡ r → StepDoes T middle new volume volume' number bytes
           r (Err fault) → Left new volume'
       by (Err other) e does = same_left middle s.0 s.1 new volume' does.2 does.1
       by (Ok step) e does =
-          let a = is_ready T known old middle volume is_open s.0 number at bytes kept sought trims step e in
+          let a = is_ready T old middle volume is_open s.0 number at bytes kept sought trims step e in
           step_left middle s.0 s.1 new volume' a.file a.found a.low a.zeros step a.is_step does

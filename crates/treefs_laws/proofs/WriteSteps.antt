@@ -24,7 +24,6 @@ use Rattle.treefs_byte_plans.specs.declared.kept.Kept.{Kept}
 use Rattle.treefs_byte_plans.specs.declared.run_plan.RunPlan.{RunPlan}
 use Rattle.treefs.specs.Trimming.{TrimsFirst}
 use Rattle.treefs.specs.declared.volume.Volume.{Volume}
-use Rattle.treefs_values.specs.KnownLayout.{IsLayout}
 use Rattle.treefs_values.specs.Values.{found_value}
 use Rattle.treefs_values.proofs.ForCallers.{inodes_found}
 use Rattle.treefs_laws.specs.Kept.{files_in}
@@ -38,13 +37,13 @@ use Rattle.treefs_laws.proofs.TrimmedFirst.{sought_zeros}
 
 -- The bytes of a file that is found
 
-module _ (T : Types) (known : IsLayout) (state : StoreState) (volume : Volume) (is_open : IsOpen T state volume) (n : ℕ) (x : Found)
+module _ (T : Types) (state : StoreState) (volume : Volume) (is_open : IsOpen T state volume) (n : ℕ) (x : Found)
     (x_is : file_found (readable state volume.tree.fs.number) volume.tree.top n ≡ Ok x) where
   abbrev m : ℕ → List ℕ
   m = readable state volume.tree.fs.number
 
-  x_found : IsFileFound T known state volume is_open n x
-  x_found = found_file T known state volume is_open n x x_is
+  x_found : IsFileFound T state volume is_open n x
+  x_found = found_file T state volume is_open n x x_is
 
   bytes_known : (k : Kind) → k ≢ kind.Directory → bytes_in (content_at m (key_in m volume.tree.top) x.block x.fields.parent k) ≡ Ok (bytes_of m x.block)
   bytes_known kind.Directory other = absurd (other refl)
@@ -145,7 +144,7 @@ module _ (middle : StoreState) (volume : Volume) (at : ℕ) (bytes : List ℕ) (
 
 -- What is known before a step is made
 
-module _ (T : Types) (known : IsLayout) (old middle : StoreState) (volume : Volume) (is_open : IsOpen T old volume) (open_there : IsOpen T middle volume)
+module _ (T : Types) (old middle : StoreState) (volume : Volume) (is_open : IsOpen T old volume) (open_there : IsOpen T middle volume)
     (number at : ℕ) (bytes : List ℕ)
     (kept : Option Kept) (sought : IsTrimToWrite (readable old volume.tree.fs.number) volume.tree.top number at (length bytes) kept)
     (trims : TrimsFirst T volume.tree.fs.number volume.memory kept old middle (Ok tt)) (step : Step)
@@ -177,7 +176,7 @@ module _ (T : Types) (known : IsLayout) (old middle : StoreState) (volume : Volu
         file = x;
         found = b.1 ∙ ap Ok c.1;
         low = low;
-        zeros = λ some p past lt. sought_zeros T known old middle volume is_open open_there number (nat_le greatest_size at) x a.1
+        zeros = λ some p past lt. sought_zeros T old middle volume is_open open_there number (nat_le greatest_size at) x a.1
             (raises at (length bytes)) kept trims
             (is_asked x some (omega arith)) sought p past (omega arith);
         is_step = step_is middle volume at bytes x low step a.2;

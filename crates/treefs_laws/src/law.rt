@@ -49,11 +49,6 @@ ghost use Rattle.treefs_laws.specs.Setting.{AreInWidth, with_attributes};
 ghost use Rattle.treefs_laws.specs.Trimmed.{AreKeptOf, IsKeptOf};
 ghost use Rattle.treefs_laws.specs.Unnamed.{KeepsUnnamed};
 
-use treefs_format::law::modes_are_read_back;
-use treefs_values::law::{
-    attached_blocks_are_pointed_to, empty_blocks_change_no_file, layout_is_known,
-};
-
 /// Look-ups of names answer what the files say, each fault in its order, and so does `stat`.
 pub fn look_ups_answer_the_files()
     ensures names { (state : StoreState) (volume : Volume) (d : ℕ) (name : List ℕ) →
@@ -81,9 +76,7 @@ pub fn directories_are_listed()
     ensures { (T : Types) (state : StoreState) (volume : Volume) (n parent : ℕ) (inode : Inode) (names : Names) (buckets : List Bucket) →
         IsKept T state volume → files_in state volume n ≡ Some inode → inode.content ≡ Directory parent names →
         AreAnswered state volume.tree n 0 buckets → IsListing names (listed_by buckets) }
-{
-    layout_is_known();
-}
+{}
 
 /// `set_mtime` sets when the content of an inode changed, and does nothing else.
 pub fn set_mtime_sets_a_time()
@@ -98,19 +91,14 @@ pub fn set_attributes_sets_what_is_told()
         IsKept T state volume → AttributesDoes T state state' volume volume' n attributes (Ok tt) →
         IsKept T state' volume' × (and_then (found (files_in state volume) n)
         (λ inode. Ok (changed_at (files_in state volume) n (with_attributes volume.memory.clock attributes))) ≡ Ok (files_in state' volume')) }
-{
-    layout_is_known();
-    modes_are_read_back();
-}
+{}
 
 /// `unlink` ends the name and does nothing else: the inode has a link fewer, and the directory the caller's time.
 pub fn unlink_ends_a_name()
     ensures { (T : Types) (state state' : StoreState) (volume volume' : Volume) (d : ℕ) (name : List ℕ) → IsKept T state volume →
         UnlinkDoes T state state' volume volume' d name (Ok tt) →
         IsKept T state' volume' × (unlinked (files_in state volume) volume.memory.clock d name ≡ Ok (files_in state' volume')) }
-{
-    layout_is_known();
-}
+{}
 
 /// `rmdir` ends the name of a directory in which no name stands, and does nothing else.
 pub fn rmdir_ends_an_empty_directory()
@@ -118,9 +106,7 @@ pub fn rmdir_ends_an_empty_directory()
         RmdirDoes T state state' volume volume' d name (Ok tt) →
         IsKept T state' volume' × (n : ℕ) × (number_in (files_in state volume) d name ≡ Ok n) × HasNoNames (files_in state volume) n
         × (removed (files_in state volume) volume.memory.clock d name true ≡ Ok (files_in state' volume')) }
-{
-    layout_is_known();
-}
+{}
 
 /// `create` makes an empty file with the attributes that are told and one link, under a number and a name that were free, and does nothing else.
 pub fn create_makes_a_file()
@@ -128,10 +114,7 @@ pub fn create_makes_a_file()
         IsOpen T state volume → FitsAttributes attributes → All (λ b. b < 256) name →
         CreateDoes T state state' volume volume' d name attributes (Ok n) →
         IsOpen T state' volume' × MakesInode state state' volume volume' d name n (new_inode volume.memory.clock attributes (File [])) }
-{
-    layout_is_known();
-    modes_are_read_back();
-}
+{}
 
 /// `symlink` makes a symbolic link to a target that stands in the inode, and does nothing else.
 pub fn symlink_makes_a_link()
@@ -139,10 +122,7 @@ pub fn symlink_makes_a_link()
         (n : ℕ) → IsOpen T state volume → FitsAttributes attributes → All (λ b. b < 256) name → All (λ b. b < 256) target → length target ≤ 384 →
         SymlinkDoes T state state' volume volume' d name attributes target (Ok n) →
         IsOpen T state' volume' × MakesInode state state' volume volume' d name n (new_inode volume.memory.clock attributes (SymbolicLink target)) }
-{
-    layout_is_known();
-    modes_are_read_back();
-}
+{}
 
 /// `mkdir` makes a directory without a name, which stands in the one that has its name, and does nothing else.
 pub fn mkdir_makes_a_directory()
@@ -151,10 +131,7 @@ pub fn mkdir_makes_a_directory()
         MkdirDoes T state state' volume volume' d name attributes (Ok n) →
         IsOpen T state' volume'
         × MakesInode state state' volume volume' d name n (new_inode volume.memory.clock attributes (Directory d (λ x. None))) }
-{
-    layout_is_known();
-    modes_are_read_back();
-}
+{}
 
 /// `rename` moves a name, and does nothing else: what had the new name, if something other had, loses a link, and a directory stands where its new name is.
 /// Where both names lead to one inode nothing is done. Told is that no directory stands in itself, and where the one stands that moves.
@@ -162,18 +139,14 @@ pub fn rename_moves_a_name()
     ensures { (T : Types) (state state' : StoreState) (volume volume' : Volume) (d : ℕ) (name : List ℕ) (to : ℕ) (new : List ℕ) → IsOpen T state volume →
         IsOfDirectory (files_in state volume) d name → All (λ b. b < 256) new → RenameDoes T state state' volume volume' d name to new (Ok tt) →
         IsOpen T state' volume' × IsRenamed state state' volume volume' d name to new }
-{
-    layout_is_known();
-}
+{}
 
 /// `link` makes one more name of a file or a symbolic link that has a link, which was free, and does nothing else: the inode has a link more.
 pub fn link_makes_a_name()
     ensures { (T : Types) (state state' : StoreState) (volume volume' : Volume) (n d : ℕ) (name : List ℕ) → IsOpen T state volume → All (λ b. b < 256) name →
         LinkDoes T state state' volume volume' n d name (Ok tt) →
         IsOpen T state' volume' × (linked (files_in state volume) volume.memory.clock n d name ≡ Ok (files_in state' volume')) }
-{
-    layout_is_known();
-}
+{}
 
 /// `begin` begins an inode that no name leads to, and changes no file; of a file or a symbolic link the block says what was told.
 /// Where it is refused all is as it was.
@@ -185,10 +158,7 @@ pub fn begin_changes_no_file()
         × (kind ≢ kinds.Directory → IsBegun state' volume block (new_inode volume.memory.clock attributes (new_content kind 0 head))) }
     ensures refused { (T : Types) (state state' : StoreState) (volume : Volume) (kind : Kind) (attributes : NewAttributes) (head : List ℕ) (fault : Fault) →
         BeginDoes T state state' volume kind attributes head (Err fault) → state' ≡ state }
-{
-    layout_is_known();
-    modes_are_read_back();
-}
+{}
 
 /// `commit` gives an inode that was begun a number and its first name, where nothing is to be replaced, and does nothing else.
 pub fn commit_names_an_inode()
@@ -196,9 +166,7 @@ pub fn commit_names_an_inode()
         IsOpen T state volume → IsBegun state volume block inode → All (λ b. b < 256) name →
         CommitDoes T state state' volume volume' block d name false (Ok n) →
         IsOpen T state' volume' × MakesInode state state' volume volume' d name n inode }
-{
-    layout_is_known();
-}
+{}
 
 /// `commit` that may replace gives an inode that was begun a number and its first name, of which what had it, a file or a link, loses a link.
 pub fn commit_replaces_a_name()
@@ -207,9 +175,7 @@ pub fn commit_replaces_a_name()
         CommitDoes T state state' volume volume' block d name true (Ok n) →
         IsOpen T state' volume' × (files_in state volume n ≡ None)
         × (replaced (files_in state volume) volume.memory.clock d name n inode ≡ Ok (files_in state' volume')) }
-{
-    layout_is_known();
-}
+{}
 
 /// `write_times` changes no file, whatever it answers: the times that were only touched are those of the files already. An inode that has no number has none
 /// then.
@@ -217,9 +183,7 @@ pub fn write_times_changes_no_file()
     ensures { (T : Types) (state state' : StoreState) (volume volume' : Volume) (result : Result (Unit {0}) Fault) → IsOpen T state volume →
         WriteTimesDoes T state state' volume volume' result →
         IsOpen T state' volume' × (files_in state' volume' ≡ files_in state volume) × KeepsUnnamed state state' volume volume' }
-{
-    layout_is_known();
-}
+{}
 
 /// `set_attributes` and `set_mtime` that are refused leave all as it was. They answer that no such inode is there, want of room, or the store's refusal.
 pub fn refused_attributes_change_nothing()
@@ -280,9 +244,7 @@ pub fn refused_rmdir_answers_the_files()
     ensures { (T : Types) (state state' : StoreState) (volume volume' : Volume) (d : ℕ) (name : List ℕ) (fault : Fault) → IsKept T state volume →
         RmdirDoes T state state' volume volume' d name (Err fault) →
         IsRefused state state' volume volume' fault (IsNotRemoved (files_in state volume) volume.memory.clock d name fault ⊎ (fault ≡ Full)) }
-{
-    layout_is_known();
-}
+{}
 
 /// `rename` that is refused leaves the session as it was, and answers what the files say, or that there is no room or place, and then all is as it was; or it
 /// answers the store's refusal. A directory that would stand below itself is refused by what the inodes say of the directories above the new place.
@@ -290,9 +252,7 @@ pub fn refused_rename_answers_the_files()
     ensures { (T : Types) (state state' : StoreState) (volume volume' : Volume) (d : ℕ) (name : List ℕ) (to : ℕ) (new : List ℕ) (fault : Fault) →
         IsKept T state volume → RenameDoes T state state' volume volume' d name to new (Err fault) →
         IsRefused state state' volume volume' fault (IsNotMoved state volume d name to new fault ⊎ IsNoPlace fault) }
-{
-    layout_is_known();
-}
+{}
 
 /// An open volume is one still once `set_mtime`, `set_attributes`, `unlink` or `rmdir` is done.
 pub fn open_volumes_stay_open()
@@ -304,10 +264,7 @@ pub fn open_volumes_stay_open()
         UnlinkDoes T state state' volume volume' d name (Ok tt) → IsOpen T state' volume' }
     ensures rmdir { (T : Types) (state state' : StoreState) (volume volume' : Volume) (d : ℕ) (name : List ℕ) → IsOpen T state volume →
         RmdirDoes T state state' volume volume' d name (Ok tt) → IsOpen T state' volume' }
-{
-    layout_is_known();
-    modes_are_read_back();
-}
+{}
 
 /// The parts of a trim of a file or a symbolic link change no file, whatever they answer: the one that makes bytes past the size 0, the one that drops pointers
 /// of nodes, however many drops are left, the one that drops pointers of the inode, and the one that ends it.
@@ -322,9 +279,7 @@ pub fn parts_of_a_trim_change_no_file()
         IsKeptOf old volume kept → Roots T volume.tree.fs.number kept old new result → IsOpen T new volume × (files_in new volume ≡ files_in old volume) }
     ensures waits { (T : Types) (old new : StoreState) (volume : Volume) (kept : Kept) (result : Result (Unit {0}) Fault) → IsOpen T old volume →
         IsKeptOf old volume kept → Waits T volume.tree.fs.number kept old new result → IsOpen T new volume × (files_in new volume ≡ files_in old volume) }
-{
-    layout_is_known();
-}
+{}
 
 /// A trim changes no file, whatever it answers: neither one that comes before something else, nor the call.
 pub fn trims_change_no_file()
@@ -333,9 +288,7 @@ pub fn trims_change_no_file()
         IsOpen T new volume × (files_in new volume ≡ files_in old volume) }
     ensures call { (T : Types) (old new : StoreState) (volume : Volume) (number : ℕ) (result : Result (Unit {0}) Fault) → IsOpen T old volume →
         TrimCallDoes T old new volume number result → IsOpen T new volume × (files_in new volume ≡ files_in old volume) }
-{
-    layout_is_known();
-}
+{}
 
 /// What `truncate` and `write_some` trim before their own edits is of a file or a symbolic link of the volume.
 pub fn what_is_trimmed_first_is_of_a_file()
@@ -355,9 +308,7 @@ pub fn truncate_sets_a_size()
         TruncateDoes T old new volume volume' number size (Err fault) →
         ((volume' ≡ volume) × IsOpen T new volume × (files_in new volume ≡ files_in old volume))
         ⊎ (IsOpen T new volume' × (truncated (files_in old volume) volume.memory.clock number size ≡ Ok (files_in new volume'))) }
-{
-    layout_is_known();
-}
+{}
 
 /// `write_some` writes the first of the bytes, as many as it answers, over those of a file or a symbolic link from a byte on, with zeros before them where the file
 /// ends before, sets its times to the caller's, and does nothing else. They end within the greatest size. Told is that the file has no more bytes than one may
@@ -367,11 +318,7 @@ pub fn write_changes_bytes()
         HasFewBytes (files_in old volume) number → All (λ b. b < 256) bytes → WriteDoes T old new volume volume' number at bytes (Ok taken) →
         IsOpen T new volume' × (written (files_in old volume) volume.memory.clock number at bytes taken ≡ Ok (files_in new volume'))
         × (taken ≤ length bytes) × (0 < length bytes → 0 < taken) × (at + taken ≤ greatest_size) }
-{
-    layout_is_known();
-    attached_blocks_are_pointed_to();
-    empty_blocks_change_no_file();
-}
+{}
 
 /// `write_some` that is refused leaves the session and the files as they were; but where the store refuses, some of the first of the bytes may stand over those
 /// that the file had, with its size and its times as they were.
@@ -380,8 +327,4 @@ pub fn refused_write_keeps_the_session()
         HasFewBytes (files_in old volume) number → All (λ b. b < 256) bytes → WriteDoes T old new volume volume' number at bytes (Err fault) →
         (volume' ≡ volume) × IsOpen T new volume × ((files_in new volume ≡ files_in old volume)
         ⊎ (IsOfStore fault × IsPartlyPut (files_in old volume) number at bytes (files_in new volume))) }
-{
-    layout_is_known();
-    attached_blocks_are_pointed_to();
-    empty_blocks_change_no_file();
-}
+{}

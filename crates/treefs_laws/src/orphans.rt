@@ -16,12 +16,6 @@ ghost use Rattle.treefs_laws.specs.Open.{IsOpen};
 ghost use Rattle.treefs_laws.specs.Orphans.{IsReaped, WaitLess, without_orphans};
 ghost use Rattle.treefs_laws.specs.Unnamed.{IsReadAlike, IsUnnamed, KeepsUnnamed};
 
-use treefs_format::law::leaves_are_side_by_side;
-use treefs_values::law::{
-    attached_blocks_are_pointed_to, empty_blocks_change_no_file, layout_is_known,
-    new_inodes_are_free,
-};
-
 /// `reap` frees inodes without links, of the numbers that it is told, and does nothing else. Whatever it answers, all other inodes are as before, and an inode
 /// that it leaves has no links still, and says what it said, but for bytes that are 0 and names that are gone. Once it is done none of them is left. A
 /// number that waits to be freed no more leads to no inode. An inode that has no number has none then.
@@ -34,10 +28,7 @@ pub fn reap_frees_orphans()
         ReapDoes T old new volume volume' numbers (Ok tt) → files_in new volume' ≡ without_orphans numbers (files_in old volume) }
     ensures waiting { (T : Types) (old new : StoreState) (volume volume' : Volume) (numbers : List ℕ) (result : Result (Unit {0}) Fault) → IsOpen T old volume →
         ReapDoes T old new volume volume' numbers result → WaitLess volume.memory.orphans volume'.memory.orphans (files_in new volume') }
-{
-    layout_is_known();
-    leaves_are_side_by_side();
-}
+{}
 
 /// `give_up` of an inode that has no number changes no file, whatever it answers, and leaves it without one where it isn't free then. An inode that was begun
 /// has no number.
@@ -47,21 +38,14 @@ pub fn give_up_changes_no_file()
     ensures given { (T : Types) (old new : StoreState) (volume : Volume) (block : ℕ) (result : Result Bool Fault) → IsOpen T old volume →
         IsUnnamed old volume block → GiveUpDoes T old new volume block result →
         IsOpen T new volume × (files_in new volume ≡ files_in old volume) × (result ≢ Ok true → IsUnnamed new volume block) }
-{
-    layout_is_known();
-    new_inodes_are_free();
-}
+{}
 
 /// `write_begun` of an inode that has no number changes no file, whatever it answers, and leaves it without one.
 pub fn begun_writes_change_no_file()
     ensures { (T : Types) (old new : StoreState) (volume : Volume) (block at : ℕ) (bytes : List ℕ) (result : Result ℕ Fault) → IsOpen T old volume →
         IsUnnamed old volume block → All (λ b. b < 256) bytes → WriteBegunDoes T old new volume block at bytes result →
         IsOpen T new volume × (files_in new volume ≡ files_in old volume) × IsUnnamed new volume block }
-{
-    layout_is_known();
-    attached_blocks_are_pointed_to();
-    empty_blocks_change_no_file();
-}
+{}
 
 /// An inode that is read alike says what it said, whether it has a number or not.
 pub fn inodes_read_alike_say_the_same()

@@ -41,7 +41,7 @@ pub fn find_path<S: Store>(
         rest,
         links: MOST_LINKS,
     };
-    while !way.is_whole() {
+    while !way.rest.is_empty() {
         way = match step(alloc, store, tree, &way, is_last_followed) {
             Ok(next) => next,
             Err(fault) => return Err(fault),

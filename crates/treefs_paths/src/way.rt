@@ -1,7 +1,5 @@
 // How far a path is gone.
 
-ghost use Rattle.std.specs.Prelude.{◌≡◌, ◌<◌, MatchBool, length};
-
 use std::marker::Model;
 
 /// How far a path is gone.
@@ -25,15 +23,6 @@ impl Model for Way {
       rest = w.rest.items;
       links = w.links;
     } };
-}
-
-impl Way {
-    /// Whether nothing is left of the path.
-    pub fn is_whole(&self) -> bool
-        ensures { MatchBool result (length self.now.rest ≡ 0) (0 < length self.now.rest) }
-    {
-        self.rest.is_empty()
-    }
 }
 
 /// Written by hand, so that a function that drops one calls this: a derived drop is proved anew in each such function.

@@ -7,7 +7,7 @@ use std::alloc::{AllocError, Global};
 use std::thread::Threads;
 use templates::write_block;
 use treefs::{BlockTypes, Volume};
-use treefs_format::types::{inode_template, node_template};
+use treefs_format::types::tree_templates;
 use world::{Event, Running, World};
 
 /// The type of nodes, and that of inodes, on a fresh disk.
@@ -30,7 +30,7 @@ fn fresh_disk(rt: &(impl Threads + Sync), alloc: Global, blocks: u32) -> Option<
 
 /// Installs both types.
 fn install_types(alloc: Global, store: &mut Recorder<Running>) -> Result<(), AllocError> {
-    let templates = [node_template(alloc)?, inode_template(alloc)?];
+    let templates = tree_templates(alloc)?;
     let mut block = 1u32;
     for template in templates.iter() {
         let bytes = write_block(template);

@@ -1,3 +1,4 @@
+pub mod Changes
 pub mod Tries
 pub mod Freeing
 pub mod Pieces

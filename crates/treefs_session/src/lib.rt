@@ -11,8 +11,7 @@ mod tries;
 
 pub use call::Call;
 pub use calls::bytes::{Target, Write};
-pub use calls::names::{Link, Rename, Rmdir, Unlink};
+pub use calls::changes::Change;
 pub use calls::new_inodes::{Begin, Commit, Create, Mkdir, Symlink};
-pub use calls::settings::{SetAttributes, SetMtime, Truncate};
 pub use put::Put;
 pub use session::{Session, Unclosed};

@@ -6,7 +6,7 @@ ghost use Rattle.treefs.specs.Opening.{opened};
 ghost use Rattle.treefs_mounts.specs.Opening.{MendsVolume};
 ghost use Rattle.treefs_session.specs.Opening.{Closes, IsNotClosed, IsNotOpened, IsOpened, with_clock};
 
-use crate::calls::lives::Close;
+use crate::calls::lives::Upkeep;
 use crate::tries::repeat;
 use edit_list::Fs;
 use flush_store::FlushStore;
@@ -126,7 +126,7 @@ impl<S: FlushStore + Drop> Session<S> {
             mut store,
             mut volume,
         } = self;
-        match repeat(alloc, &mut store, &mut volume, &Close) {
+        match repeat(alloc, &mut store, &mut volume, &Upkeep::Close) {
             Ok(()) => Ok(store),
             Err(fault) => Err(Unclosed {
                 session: Session { store, volume },

@@ -24,11 +24,11 @@ use Rattle.treefs_session.specs.Pieces.{WritesAll, WritesPiece, advanced, goes, 
 use Rattle.treefs_session.specs.declared.calls.bytes.Target.{Target}
 use Rattle.treefs_session.specs.declared.calls.bytes.Target.TheVariants.{Begun}
 use Rattle.treefs_session_laws.specs.Before.{IsAsBeforeButOrphans, IsUnheld}
-use Rattle.treefs_session_laws.proofs.Done.{before_same}
-use Rattle.treefs_session_laws.proofs.Freed.{AreKnown, as_before, held_or_not, unheld_then}
+use Rattle.treefs_session_laws.proofs.Room.{before_same}
+use Rattle.treefs_session_laws.proofs.Freed.{as_before, held_or_not, unheld_then}
 use Rattle.treefs_session_laws.proofs.Kept.{made_in_vain, made_last}
 
-module _ (T : Types) (known : AreKnown T) (held : List ℕ) where
+module _ (T : Types) (held : List ℕ) where
   abbrev Unheld : StoreState → StoreState → Volume → Volume → Type 0
   Unheld old new v v' = IsAsBeforeButOrphans T held old new v v'
 
@@ -42,12 +42,12 @@ module _ (T : Types) (known : AreKnown T) (held : List ℕ) where
     not_begun : (old new : StoreState) (v v' : Volume) (fault : Fault) → IsOpen T old v → Begins old new v v' (Err fault) → Unheld old new v v'
     not_begun old new v v' fault is_open (does, still) =
         subst (λ w. Unheld old new v w) (sym still) (subst (λ s. Unheld old s v v) (sym (refused old new v fault does))
-        (as_before T known held old old v v (before_same T old v is_open)))
+        (as_before T held old old v v (before_same T old v is_open)))
 
     pub begins_in_vain : (old new : StoreState) (v v' : Volume) (fault : Fault) → IsOpen T old v → MakesFreely Begins T held old new v v' (Err fault) →
         IsAsBeforeButOrphans T held old new v v'
     begins_in_vain old new v v' fault is_open makes =
-        made_in_vain T known held (IsOpen T) (λ s v is_open. is_open) Unheld (λ old new v v' is. is.is_open) (unheld_then T known held)
+        made_in_vain T held (IsOpen T) (λ s v is_open. is_open) Unheld (λ old new v v' is. is.is_open) (unheld_then T held)
         (λ old new v v' is_open is. is) Begins not_begun old new v v' fault is_open makes
 
     abbrev pub HasBegun : StoreState → StoreState → Volume → Volume → ℕ → Type 0
@@ -61,7 +61,7 @@ module _ (T : Types) (known : AreKnown T) (held : List ℕ) where
         (old new : StoreState) (v v' : Volume) (block : ℕ) → IsOpen T old v → MakesFreely Begins T held old new v v' (Ok block) →
         HasBegun old new v v' block
     begins law old new v v' block is_open makes =
-        let last = made_last T known held (IsOpen T) (λ s v is_open. is_open) Unheld (λ old new v v' is. is.is_open) (unheld_then T known held)
+        let last = made_last T held (IsOpen T) (λ s v is_open. is_open) Unheld (λ old new v v' is. is.is_open) (unheld_then T held)
         (λ old new v v' is_open is. is) Begins (λ old new v v' fault is_open again does. not_begun old new v v' fault is_open does) old new v v' block is_open
         makes in
         let before : Unheld old last.0 v last.1 = last.2 in
@@ -104,7 +104,7 @@ module _ (T : Types) (known : AreKnown T) (held : List ℕ) where
     frees old new v v' holds is = record { is_open = is.is_open; files = is.files; clock = is.clock; unnamed = (is.unnamed c holds.1).0 }
 
     beside_same : (s : StoreState) (v : Volume) → Holds s v → IsBeside s s v v
-    beside_same s v holds = frees s s v v holds (as_before T known held s s v v (before_same T s v holds.0))
+    beside_same s v holds = frees s s v v holds (as_before T held s s v v (before_same T s v holds.0))
 
     module _ (at : ℕ) (bytes : List ℕ) (wide : All (λ b. b < 256) bytes) where
       abbrev Writes : StoreState → StoreState → Volume → Volume → Result ℕ Fault → Type 0
@@ -123,11 +123,11 @@ module _ (T : Types) (known : AreKnown T) (held : List ℕ) where
       piece : (old new : StoreState) (v v' : Volume) (result : Result ℕ Fault) → Holds old v → MakesFreely Writes T held old new v v' result →
           IsBeside old new v v'
       piece old new v v' (Ok taken) holds makes =
-          let last = made_last T known held Holds (λ s v holds. holds.0) IsBeside holds_then beside_then frees Writes
+          let last = made_last T held Holds (λ s v holds. holds.0) IsBeside holds_then beside_then frees Writes
           (λ old new v v' fault holds again does. written old new v v' (Err fault) holds does) old new v v' taken holds makes in
           beside_then old last.0 new v last.1 v' last.2 (written last.0 new last.1 v' (Ok taken) (holds_then old last.0 v last.1 last.2) last.3)
       piece old new v v' (Err fault) holds makes =
-          made_in_vain T known held Holds (λ s v holds. holds.0) IsBeside holds_then beside_then frees Writes
+          made_in_vain T held Holds (λ s v holds. holds.0) IsBeside holds_then beside_then frees Writes
           (λ old new v v' fault holds does. written old new v v' (Err fault) holds does) old new v v' fault holds makes
 
     -- one piece after another

@@ -16,11 +16,11 @@ use Rattle.treefs_laws.specs.Kept.{files_in}
 use Rattle.treefs_laws.specs.Open.{IsOpen}
 use Rattle.treefs_laws.specs.Orphans.{IsOrphan, IsReaped, WaitLess, without_orphans}
 use Rattle.treefs_laws.specs.Unnamed.{KeepsUnnamed}
-use Rattle.treefs_laws.proofs.ForCallers.{among_or_not, orphan_then, reaped_same, reaped_then, reaped_weaker, reaped_without, unnamed_then, without_gone}
+use Rattle.treefs_laws.proofs.ForCallers.{among_or_not, mark_said, orphan_then, reap_done, reap_said, reap_waits, reaped_same, reaped_then, reaped_weaker, reaped_without, unnamed_then, without_gone}
 use Rattle.treefs_session.specs.Tries.{MakesRoom, Tries, most_tries}
 use Rattle.treefs_session_laws.specs.Before.{IsAsBefore, IsAsBeforeButOrphans, IsUnheld}
-use Rattle.treefs_session_laws.proofs.Done.{before_same, before_then}
-use Rattle.treefs_session_laws.proofs.Freed.{AreKnown, Flushed, Writes_so, flush_before, write_before}
+use Rattle.treefs_session_laws.proofs.Room.{before_same, before_then, room_before}
+use Rattle.treefs_session_laws.proofs.Freed.{Flushed, Writes_so, flush_before, write_before}
 use Rattle.treefs_session_laws.proofs.Tried.{tries_end, tries_keep}
 
 -- what isn't there doesn't come back
@@ -90,11 +90,7 @@ module _ (T : Types) where
     );
   }
 
-module _ (T : Types) (known : AreKnown T)
-    (waits : (old new : StoreState) (v v' : Volume) (numbers : List ℕ) (result : Result (Unit {0}) Fault) → IsOpen T old v →
-    ReapDoes T old new v v' numbers result → WaitLess v.memory.orphans v'.memory.orphans (files_in new v'))
-    (marks : (old new : StoreState) (v : Volume) (clean : Bool) (result : Result (Unit {0}) Fault) → IsOpen T old v →
-    Does T v.tree.fs.number (mark_plan v.tree.top clean) old new result → IsOpen T new v × (files_in new v ≡ files_in old v) × KeepsUnnamed old new v v) where
+module _ (T : Types) where
   -- Orphans are freed
 
   abbrev Reaps_so : StoreState → StoreState → Volume → Volume → Result (Unit {0}) Fault → Type 0
@@ -106,45 +102,45 @@ module _ (T : Types) (known : AreKnown T)
   reaps_closing old new v v' result is_open (inl (told, still, stays)) =
       subst (λ w. IsClosing T old new v w) (sym stays) (subst (λ s. IsClosing T old s v v) (sym still) (closing_same T old v is_open))
   reaps_closing old new v v' result is_open (inr does) =
-      let r = known.reaps old new v v' v.memory.orphans result is_open does in
-      record { is_open = r.0; files = r.1; tree = r.2; clock = r.3; waiting = waits old new v v' v.memory.orphans result is_open does; unnamed = r.4 }
+      let r = reap_said T v.memory.orphans old new v v' is_open result does in
+      record { is_open = r.0; files = r.1; tree = r.2; clock = r.3; waiting = reap_waits T v.memory.orphans old new v v' is_open result does; unnamed = r.4 }
 
   -- All is written, and the mark
 
   abbrev Marks_so : StoreState → StoreState → Volume → Result (Unit {0}) Fault → Type 0
   Marks_so old new v result =
       MatchResult result (λ done. ⊥) (λ fault. Does T v.tree.fs.number (mark_plan v.tree.top true) old new (Err fault))
-      ⊎ ((middle : StoreState) × Does T v.tree.fs.number (mark_plan v.tree.top true) old middle (Ok tt) × Flushed T known middle new result)
+      ⊎ ((middle : StoreState) × Does T v.tree.fs.number (mark_plan v.tree.top true) old middle (Ok tt) × Flushed T middle new result)
 
   mark_before : (old new : StoreState) (v : Volume) (result : Result (Unit {0}) Fault) → IsOpen T old v →
       Does T v.tree.fs.number (mark_plan v.tree.top true) old new result → IsAsBefore T old new v v
   mark_before old new v result is_open does =
-      let m = marks old new v true result is_open does in record { is_open = m.0; files = m.1; tree = refl; clock = refl; unnamed = m.2 }
+      let m = mark_said T old new v true is_open result does in record { is_open = m.0; files = m.1; tree = refl; clock = refl; unnamed = m.2 }
 
   marks_before : (old new : StoreState) (v : Volume) (result : Result (Unit {0}) Fault) → IsOpen T old v → Marks_so old new v result → IsAsBefore T old new v v
   marks_before old new v (Ok done) is_open (inl none) = absurd none
   marks_before old new v (Err fault) is_open (inl does) = mark_before old new v (Err fault) is_open does
   marks_before old new v result is_open (inr (middle, does, flushes)) =
       let first = mark_before old middle v (Ok tt) is_open does in
-      before_then T old middle new v v v first (flush_before T known middle new v result first.is_open flushes)
+      before_then T old middle new v v v first (flush_before T middle new v result first.is_open flushes)
 
-  write_waits : (old new : StoreState) (v v' : Volume) (result : Result (Unit {0}) Fault) → Writes_so T known old new v v' result → SameOrphans v v'
+  write_waits : (old new : StoreState) (v v' : Volume) (result : Result (Unit {0}) Fault) → Writes_so T old new v v' result → SameOrphans v v'
   write_waits old new v v' (Ok done) (inl none) = absurd none
   write_waits old new v v' (Err fault) (inl writes) = times_wait T old new v v' (Err fault) writes
   write_waits old new v v' result (inr (middle, writes, flushes)) = times_wait T old middle v v' (Ok tt) writes
 
   abbrev Ends_so : StoreState → StoreState → Volume → Volume → Result (Unit {0}) Fault → Type 0
   Ends_so old new v v' result =
-      MatchResult result (λ done. ⊥) (λ fault. Writes_so T known old new v v' (Err fault))
-      ⊎ ((middle : StoreState) × Writes_so T known old middle v v' (Ok tt) × Marks_so middle new v' result)
+      MatchResult result (λ done. ⊥) (λ fault. Writes_so T old new v v' (Err fault))
+      ⊎ ((middle : StoreState) × Writes_so T old middle v v' (Ok tt) × Marks_so middle new v' result)
 
   ends_before : (old new : StoreState) (v v' : Volume) (result : Result (Unit {0}) Fault) → IsOpen T old v → Ends_so old new v v' result →
       IsAsBefore T old new v v' × SameOrphans v v'
   ends_before old new v v' (Ok done) is_open (inl none) = absurd none
   ends_before old new v v' (Err fault) is_open (inl writes) =
-      (write_before T known old new v v' (Err fault) is_open writes, write_waits old new v v' (Err fault) writes)
+      (write_before T old new v v' (Err fault) is_open writes, write_waits old new v v' (Err fault) writes)
   ends_before old new v v' result is_open (inr (middle, writes, marked)) =
-      let first = write_before T known old middle v v' (Ok tt) is_open writes in (
+      let first = write_before T old middle v v' (Ok tt) is_open writes in (
         before_then T old middle new v v' v' first (marks_before middle new v' result first.is_open marked),
         write_waits old middle v v' (Ok tt) writes,
       )
@@ -171,13 +167,13 @@ module _ (T : Types) (known : AreKnown T)
   close_frees old new v v' is_open (inr (middle, w, inl (told, still, stays), ends)) = absurd (cc told)
   close_frees old new v v' is_open (inr (middle, w, inr does, ends)) =
       let first = reaps_closing old middle v w (Ok tt) is_open (inr does) in
-      (ends_before middle new w v' (Ok tt) first.is_open ends).0.files ∙ known.reaped old middle v w v.memory.orphans is_open does
+      (ends_before middle new w v' (Ok tt) first.is_open ends).0.files ∙ reap_done T v.memory.orphans old middle v w is_open (Ok tt) does refl
 
   -- until it has room
 
   room_closing : (old new : StoreState) (v v' : Volume) (result : Result Bool Fault) → IsOpen T old v → MakesRoom T old new v v' result → IsClosing T old new v v'
   room_closing old new v v' result is_open makes =
-      as_closing T old new v v' (known.room old new v v' result is_open makes) (room_waits T old new v v' result makes)
+      as_closing T old new v v' (room_before T old new v v' result is_open makes) (room_waits T old new v v' result makes)
 
   closing : (old new : StoreState) (v v' : Volume) (result : Result (Unit {0}) Fault) → IsOpen T old v → Tries Closes_so T most_tries old new v v' result →
       IsClosing T old new v v'

@@ -1,30 +1,16 @@
 -- A call that is made until it has room is done once.
-use Rattle.std.proofs.Common.{◌≡◌, ℕ, zero, suc, Bool, true, Option, None, Some, Result, Ok, Err, refl, sym, ◌∙◌, ap, inl, inr, subst}
+use Rattle.std.proofs.Common.{◌≡◌, ℕ, zero, suc, true, Option, None, Some, Result, Ok, Err, refl, sym, ◌∙◌, ap, inl, inr, subst}
 use Rattle.std.proofs.lemmas.Option.{same_Some}
 use Rattle.xn_model.specs.Lives.{StoreState}
 use Rattle.xn_model.specs.Types.{Types}
 use Rattle.treefs_model.specs.declared.fault.Fault.{Fault}
 use Rattle.treefs_model.specs.declared.fault.Fault.TheVariants.{BadName, Cycle, Exists, Full, IsDir, Kernel, NoEntry, NoInode, NoSpace}
 use Rattle.treefs_model.specs.declared.fault.Fault.TheVariants.{NotDir, NotEmpty, NotLink, TooLarge}
-use Rattle.treefs_lookup.specs.Readable.{readable}
 use Rattle.treefs.specs.declared.volume.Volume.{Volume}
 use Rattle.treefs_laws.specs.Open.{IsOpen}
-use Rattle.treefs_laws.proofs.ForCallers.{alike_same, unnamed_then}
-use Rattle.treefs_session.specs.Tries.{MakesRoom, Tries, TriesOnce, as_answer, is_full}
+use Rattle.treefs_session.specs.Tries.{Tries, TriesOnce, as_answer, is_full}
 use Rattle.treefs_session_laws.specs.Before.{IsAsBefore}
-
-pub before_same : (T : Types) (state : StoreState) (volume : Volume) → IsOpen T state volume → IsAsBefore T state state volume volume
-before_same T state volume is_open = record { is_open = is_open; files = refl; tree = refl; clock = refl; unnamed = λ block unnamed. (unnamed, alike_same (readable state volume.tree.fs.number) block) }
-
-pub before_then : (T : Types) (old middle new : StoreState) (volume between volume' : Volume) → IsAsBefore T old middle volume between →
-    IsAsBefore T middle new between volume' → IsAsBefore T old new volume volume'
-before_then T old middle new volume between volume' first next = record {
-  is_open = next.is_open;
-  files = next.files ∙ first.files;
-  tree = next.tree ∙ first.tree;
-  clock = next.clock ∙ first.clock;
-  unnamed = unnamed_then old middle new volume between volume' first.unnamed next.unnamed;
-}
+use Rattle.treefs_session_laws.proofs.Room.{before_same, before_then, room_before}
 
 pub full_is : (fault : Fault) → is_full fault ≡ true → fault ≡ Full
 full_is Full is = refl
@@ -41,11 +27,9 @@ full_is NoSpace is = absurd (cc is)
 full_is Cycle is = absurd (cc is)
 full_is (Kernel reason) is = absurd (cc is)
 
--- full, room: what a call that is full keeps, and what making room keeps
+-- full: what a call that is full keeps
 module _ {A : Type 0} (T : Types) (Does : StoreState → StoreState → Volume → Volume → Result A Fault → Type 0)
-    (full : (before after : StoreState) (v v' : Volume) → IsOpen T before v → Does before after v v' (Err Full) → IsAsBefore T before after v v')
-    (room : (before after : StoreState) (v v' : Volume) (result : Result Bool Fault) → IsOpen T before v → MakesRoom T before after v v' result →
-    IsAsBefore T before after v v') where
+    (full : (before after : StoreState) (v v' : Volume) → IsOpen T before v → Does before after v v' (Err Full) → IsAsBefore T before after v v') where
   abbrev pub IsDone : StoreState → StoreState → Volume → Volume → A → Type 0
   IsDone old new volume volume' answer =
       (middle : StoreState) × (between : Volume) × IsAsBefore T old middle volume between × Does middle new between volume' (Ok answer)
@@ -61,7 +45,7 @@ module _ {A : Type 0} (T : Types) (Does : StoreState → StoreState → Volume �
           let at : Does old refused.1 volume refused.2 (Err Full) =
           subst (λ fault. Does old refused.1 volume refused.2 (Err fault)) (full_is refused.0 made.0) refused.4 in
           let first = full old refused.1 volume refused.2 is_open at in
-          before_then T old refused.1 new volume refused.2 volume' first (room refused.1 new refused.2 volume' made.1.0 first.is_open made.1.1)
+          before_then T old refused.1 new volume refused.2 volume' first (room_before T refused.1 new refused.2 volume' made.1.0 first.is_open made.1.1)
     ]
   ]
 

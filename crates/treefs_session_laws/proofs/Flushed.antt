@@ -2,7 +2,9 @@
 use mathlib.Core.Path.{fun_ext}
 use Rattle.std.proofs.Common.{◌≡◌, ◌≢◌, ℕ, not, List, [], Option, None, Some, refl, sym, ◌∙◌, ap, subst, if◌then◌else◌}
 use Rattle.std.specs.Prelude.{◌&&◌, ◌==◌, All}
-use Rattle.xn_kernel.specs.FlushedStates.{GoesOn, KeepsNewest}
+use Rattle.xn_kernel.specs.FlushedStates.{GoesOn, KeepsNewest, StateRefuses, StateWaves}
+use Rattle.store_types.specs.declared.refusal.Refusal.{Refusal}
+use Rattle.flush_store.proofs.ForCallers.{refused_keep, waves_keep}
 use Rattle.xn_model.specs.Calls.{life_bytes, root_of}
 use Rattle.xn_model.specs.Lives.{Life, StoreState, current, is_dropped, is_for, life_at}
 use Rattle.xn_model.specs.Root.{slot}
@@ -76,7 +78,7 @@ module _ (T : Types) (old new : StoreState) (volume : Volume) (is_open : IsOpen 
       (subst (λ k. IsVolume volume.tree.node_type volume.tree.inode_type k (readable old fs) volume.tree.top) (sym (kinds_on T old new keeps sound fs))
       is_open.kept.bytes)
 
-  pub stays_open : IsAsBefore T old new volume volume
+  stays_open : IsAsBefore T old new volume volume
   stays_open = record {
     is_open = record {
       kept = record { store = sound; bytes = volume_on; session = is_open.kept.session };
@@ -91,3 +93,13 @@ module _ (T : Types) (old new : StoreState) (volume : Volume) (is_open : IsOpen 
     clock = refl;
     unnamed = read_keeps T old new volume is_open (kinds_on T old new keeps sound fs) (reads_on T old new keeps sound fs);
   }
+
+pub waves_before : (T : Types) (old new : StoreState) (volume : Volume) (waves : ℕ) → IsOpen T old volume → StateWaves waves old new → IsAsBefore T old new volume volume
+waves_before T old new volume waves is_open flushed =
+    let kept = waves_keep T waves old new is_open.kept.store flushed in stays_open T old new volume is_open kept.1 kept.0
+
+-- so it is where a flush is refused, or stops
+pub stopped_before : (T : Types) (old new : StoreState) (volume : Volume) (refusal : Refusal) → IsOpen T old volume → StateRefuses old refusal new →
+    IsAsBefore T old new volume volume
+stopped_before T old new volume refusal is_open refused =
+    let kept = refused_keep T refusal old new is_open.kept.store refused in stays_open T old new volume is_open kept.1 kept.0

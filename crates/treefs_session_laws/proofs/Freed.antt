@@ -20,12 +20,13 @@ use Rattle.treefs_laws.specs.Kept.{files_in}
 use Rattle.treefs_laws.specs.Open.{IsOpen}
 use Rattle.treefs_laws.specs.Orphans.{IsReaped, without_orphans}
 use Rattle.treefs_laws.specs.Unnamed.{KeepsUnnamed}
-use Rattle.treefs_laws.proofs.ForCallers.{among_or_not, reaped_same, reaped_then, reaped_weaker, reaped_without, unnamed_then, without_gone}
+use Rattle.treefs_laws.proofs.ForCallers.{among_or_not, reap_done, reap_said, reaped_same, reaped_then, reaped_weaker, reaped_without, unnamed_then, without_gone}
 use Rattle.treefs_session.specs.Freeing.{FreesAndTries, MakesFreely, ReapsAndWrites, Reaps, Syncs, Writes, unheld}
 use Rattle.treefs_session.specs.Tries.{MakesRoom, Tries, most_tries}
 use Rattle.treefs_session_laws.specs.Before.{IsAsBefore, IsAsBeforeButOrphans, IsUnheld}
-use Rattle.treefs_session_laws.proofs.Done.{before_same, before_then}
+use Rattle.treefs_session_laws.proofs.Room.{before_same, before_then, room_before, times_before}
 use Rattle.treefs_session_laws.proofs.Tried.{IsAgain, tries_end, tries_keep, tries_lack}
+use Rattle.treefs_session_laws.proofs.Flushed.{stopped_before, waves_before}
 
 -- whether an inode is held is known
 pub held_or_not : (held : List ℕ) (n : ℕ) → IsUnheld held n ⊎ (IsUnheld held n → ⊥)
@@ -72,29 +73,8 @@ module _ (T : Types) (Among : ℕ → Type 0) (tells : (n : ℕ) → Among n ⊎
     unnamed = unnamed_then old middle new v w x first.unnamed second.unnamed;
   }
 
--- What is told of the calls below
-pub record AreKnown (T : Types) : Type 0 where
-  pub waves : (old new : StoreState) (volume : Volume) (waves : ℕ) → IsOpen T old volume → StateWaves waves old new → IsAsBefore T old new volume volume
-  pub refused : (old new : StoreState) (volume : Volume) (refusal : Refusal) → IsOpen T old volume → StateRefuses old refusal new →
-      IsAsBefore T old new volume volume
-  pub room : (old new : StoreState) (v v' : Volume) (result : Result Bool Fault) → IsOpen T old v → MakesRoom T old new v v' result → IsAsBefore T old new v v'
-  pub times : (old new : StoreState) (v v' : Volume) (result : Result (Unit {0}) Fault) → IsOpen T old v → WriteTimesDoes T old new v v' result →
-      IsOpen T new v' × (files_in new v' ≡ files_in old v) × KeepsUnnamed old new v v'
-  pub reaps : (old new : StoreState) (v v' : Volume) (numbers : List ℕ) (result : Result (Unit {0}) Fault) → IsOpen T old v →
-      ReapDoes T old new v v' numbers result →
-      IsOpen T new v' × IsReaped (Contains numbers) (files_in old v) (files_in new v') × (v'.tree ≡ v.tree) × (v'.memory.clock ≡ v.memory.clock)
-      × KeepsUnnamed old new v v'
-  pub reaped : (old new : StoreState) (v v' : Volume) (numbers : List ℕ) → IsOpen T old v → ReapDoes T old new v v' numbers (Ok tt) →
-      files_in new v' ≡ without_orphans numbers (files_in old v)
-
-module _ (T : Types) (known : AreKnown T) where
+module _ (T : Types) where
   -- All is written
-
-  times_before : (old new : StoreState) (v v' : Volume) (result : Result (Unit {0}) Fault) → IsOpen T old v → WriteTimesDoes T old new v v' result →
-      IsAsBefore T old new v v'
-  times_before old new v v' result is_open writes =
-      let t = known.times old new v v' result is_open writes in
-      record { is_open = t.0; files = t.1; tree = ap (λ (w : Volume). w.tree) writes.2; clock = ap (λ (w : Volume). w.memory.clock) writes.2; unnamed = t.2 }
 
   abbrev pub Flushed : StoreState → StoreState → Result (Unit {0}) Fault → Type 0
   Flushed old new result = MatchResult result
@@ -102,8 +82,8 @@ module _ (T : Types) (known : AreKnown T) where
       (λ fault. (refusal : Refusal) × StateRefuses old refusal new × (fault ≡ Kernel refusal))
 
   pub flush_before : (old new : StoreState) (v : Volume) (result : Result (Unit {0}) Fault) → IsOpen T old v → Flushed old new result → IsAsBefore T old new v v
-  flush_before old new v (Ok done) is_open flushed = known.waves old new v flushed.0.0 is_open flushed.0.1
-  flush_before old new v (Err fault) is_open flushed = known.refused old new v flushed.0 is_open flushed.1
+  flush_before old new v (Ok done) is_open flushed = waves_before T old new v flushed.0.0 is_open flushed.0.1
+  flush_before old new v (Err fault) is_open flushed = stopped_before T old new v flushed.0 is_open flushed.1
 
   abbrev pub Writes_so : StoreState → StoreState → Volume → Volume → Result (Unit {0}) Fault → Type 0
   Writes_so old new v v' result =
@@ -113,15 +93,15 @@ module _ (T : Types) (known : AreKnown T) where
   pub write_before : (old new : StoreState) (v v' : Volume) (result : Result (Unit {0}) Fault) → IsOpen T old v → Writes_so old new v v' result →
       IsAsBefore T old new v v'
   write_before old new v v' (Ok done) is_open (inl none) = absurd none
-  write_before old new v v' (Err fault) is_open (inl writes) = times_before old new v v' (Err fault) is_open writes
+  write_before old new v v' (Err fault) is_open (inl writes) = times_before T old new v v' (Err fault) is_open writes
   write_before old new v v' result is_open (inr (middle, writes, flushes)) =
-      let first = times_before old middle v v' (Ok tt) is_open writes in
+      let first = times_before T old middle v v' (Ok tt) is_open writes in
       before_then T old middle new v v' v' first (flush_before middle new v' result first.is_open flushes)
 
   pub writes_before : (old new : StoreState) (v v' : Volume) (result : Result (Unit {0}) Fault) → IsOpen T old v → Writes T old new v v' result →
       IsAsBefore T old new v v'
   writes_before old new v v' result is_open writes =
-      tries_keep T (IsOpen T) (IsAsBefore T) (λ old new v v' is. is.is_open) (before_same T) (before_then T) known.room Writes_so write_before most_tries old new v v'
+      tries_keep T (IsOpen T) (IsAsBefore T) (λ old new v v' is. is.is_open) (before_same T) (before_then T) (room_before T) Writes_so write_before most_tries old new v v'
       result is_open writes
 
   -- Orphans of some numbers are freed
@@ -137,11 +117,11 @@ module _ (T : Types) (known : AreKnown T) where
     from = from_before T (Contains numbers) (among_or_not numbers)
 
     but_room : (old new : StoreState) (v v' : Volume) (result : Result Bool Fault) → IsOpen T old v → MakesRoom T old new v v' result → But old new v v'
-    but_room old new v v' result is_open makes = from old new v v' (known.room old new v v' result is_open makes)
+    but_room old new v v' result is_open makes = from old new v v' (room_before T old new v v' result is_open makes)
 
     reap_but : (old new : StoreState) (v v' : Volume) (result : Result (Unit {0}) Fault) → IsOpen T old v → Reaping old new v v' result → But old new v v'
     reap_but old new v v' result is_open does =
-        let r = known.reaps old new v v' numbers result is_open does in record { is_open = r.0; files = r.1; tree = r.2; clock = r.3; unnamed = r.4 }
+        let r = reap_said T numbers old new v v' is_open result does in record { is_open = r.0; files = r.1; tree = r.2; clock = r.3; unnamed = r.4 }
 
     pub reaps_but : (old new : StoreState) (v v' : Volume) (result : Result (Unit {0}) Fault) → IsOpen T old v → Reaps T numbers old new v v' result →
         But old new v v'
@@ -157,7 +137,7 @@ module _ (T : Types) (known : AreKnown T) where
         let last = tries_end T (IsOpen T) But (opens T (Contains numbers) (among_or_not numbers)) (but_same T (Contains numbers) (among_or_not numbers))
         (but_then T (Contains numbers) (among_or_not numbers))
         but_room Reaping (λ old new v v' fault is_open again does. reap_but old new v v' (Err fault) is_open does) most_tries old new v v' tt is_open reaps in
-        let all = known.reaped last.0 new last.1 v' numbers (last.2).is_open last.3 in
+        let all = reap_done T numbers last.0 new last.1 v' (last.2).is_open (Ok tt) last.3 refl in
         let whole = reaps_but old new v v' (Ok tt) is_open reaps in
         reaped_without numbers (files_in old v) (files_in new v') whole.files
         (λ n orphan. ap (λ (f : Files). f n) all ∙ without_gone numbers (files_in old v) (files_in last.0 last.1) last.2.files n orphan)
@@ -229,7 +209,7 @@ module _ (T : Types) (known : AreKnown T) where
       tried : (old new : StoreState) (v v' : Volume) (answer : A) → IsOpen T old v → Tries Does T most_tries old new v v' (Ok answer) →
           IsMade old new v v' answer
       tried old new v v' answer is_open tries =
-          let last = tries_end T (IsOpen T) (IsAsBefore T) (λ old new v v' is. is.is_open) (before_same T) (before_then T) known.room Does refused most_tries old new v v'
+          let last = tries_end T (IsOpen T) (IsAsBefore T) (λ old new v v' is. is.is_open) (before_same T) (before_then T) (room_before T) Does refused most_tries old new v v'
           answer is_open tries in
           (last.0, last.1, as_before old last.0 v last.1 last.2, last.3)
 
@@ -245,7 +225,7 @@ module _ (T : Types) (known : AreKnown T) where
           IsMade old new v v' answer
       made_freely old new v v' answer is_open (inl (tries, space)) = tried old new v v' answer is_open tries
       made_freely old new v v' answer is_open (inr (fault, middle, w, tries, lacks, frees)) =
-          let first = tries_lack T (IsOpen T) (IsAsBefore T) (λ old new v v' is. is.is_open) (before_same T) (before_then T) known.room Does refused most_tries old middle
+          let first = tries_lack T (IsOpen T) (IsAsBefore T) (λ old new v v' is. is.is_open) (before_same T) (before_then T) (room_before T) Does refused most_tries old middle
           v w fault is_open lacks tries in
           let last = frees_and_tries middle new w v' answer first.is_open frees in
           (last.0, last.1, unheld_then old middle last.0 v w last.1 (as_before old middle v w first) last.2, last.3)

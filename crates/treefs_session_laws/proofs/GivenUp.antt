@@ -11,11 +11,11 @@ use Rattle.treefs_laws.specs.Unnamed.{IsUnnamed}
 use Rattle.treefs_session.specs.Freeing.{GivesUp, GivesUpAgain, GivesUpOnce}
 use Rattle.treefs_session.specs.Tries.{MakesRoom, most_tries}
 use Rattle.treefs_session_laws.specs.Before.{IsAsBefore}
-use Rattle.treefs_session_laws.proofs.Done.{before_same}
-use Rattle.treefs_session_laws.proofs.Freed.{AreKnown, writes_before}
+use Rattle.treefs_session_laws.proofs.Room.{before_same, room_before}
+use Rattle.treefs_session_laws.proofs.Freed.{writes_before}
 use Rattle.treefs_session_laws.proofs.Tried.{tries_end, tries_refused}
 
-module _ (T : Types) (known : AreKnown T) (c : ℕ)
+module _ (T : Types) (c : ℕ)
     (gives : (old new : StoreState) (v : Volume) (result : Result Bool Fault) → IsOpen T old v → IsUnnamed old v c → GiveUpDoes T old new v c result →
     IsOpen T new v × (files_in new v ≡ files_in old v) × (result ≢ Ok true → IsUnnamed new v c)) where
   abbrev pub Holds : StoreState → Volume → Type 0
@@ -53,7 +53,7 @@ module _ (T : Types) (known : AreKnown T) (c : ℕ)
   still_same s v holds = still_before s s v v holds (before_same T s v holds.0)
 
   room : (old new : StoreState) (v v' : Volume) (result : Result Bool Fault) → Holds old v → MakesRoom T old new v v' result → IsStill old new v v'
-  room old new v v' result holds makes = still_before old new v v' holds (known.room old new v v' result holds.0 makes)
+  room old new v v' result holds makes = still_before old new v v' holds (room_before T old new v v' result holds.0 makes)
 
   abbrev Gives : StoreState → StoreState → Volume → Volume → Result Bool Fault → Type 0
   Gives old new v v' result = GiveUpDoes T old new v c result × (v' ≡ v)
@@ -88,9 +88,9 @@ module _ (T : Types) (known : AreKnown T) (c : ℕ)
 
   again : (old new : StoreState) (v v' : Volume) (result : Result Bool Fault) → Holds old v → GivesUpAgain T c old new v v' result → IsSame old new v v'
   again old new v v' (Ok free) holds (inl none) = absurd none
-  again old new v v' (Err fault) holds (inl writes) = from_before old new v v' (writes_before T known old new v v' (Err fault) holds.0 writes)
+  again old new v v' (Err fault) holds (inl writes) = from_before old new v v' (writes_before T old new v v' (Err fault) holds.0 writes)
   again old new v v' result holds (inr (middle, w, writes, gives_up)) =
-      let first = still_before old middle v w holds (writes_before T known old middle v w (Ok tt) holds.0 writes) in
+      let first = still_before old middle v w holds (writes_before T old middle v w (Ok tt) holds.0 writes) in
       same_then old middle new v w v' first.0 (once middle new w v' result (holds_then old middle v w first) gives_up).0
 
   not_true : ◌≢◌ {A = Result Bool Fault} (Ok false) (Ok true)

@@ -8,12 +8,12 @@ use Rattle.treefs_laws.specs.Open.{IsOpen}
 use Rattle.treefs_session.specs.Freeing.{FreesAndTries, MakesFreely, Syncs, lacks_space}
 use Rattle.treefs_session.specs.Tries.{MakesRoom, Tries, most_tries}
 use Rattle.treefs_session_laws.specs.Before.{IsAsBeforeButOrphans}
-use Rattle.treefs_session_laws.proofs.Done.{before_same}
-use Rattle.treefs_session_laws.proofs.Freed.{AreKnown, as_before, syncs_unheld}
+use Rattle.treefs_session_laws.proofs.Room.{before_same, room_before}
+use Rattle.treefs_session_laws.proofs.Freed.{as_before, syncs_unheld}
 use Rattle.treefs_session_laws.proofs.Tried.{IsAgain, tries_end, tries_lack, tries_refused, tries_told}
 
 -- Holds: of a volume between calls; Keeps: of two states of it, one before the other
-module _ (T : Types) (known : AreKnown T) (held : List ℕ) (Holds : StoreState → Volume → Type 0)
+module _ (T : Types) (held : List ℕ) (Holds : StoreState → Volume → Type 0)
     (is_open : (s : StoreState) (v : Volume) → Holds s v → IsOpen T s v)
     (Keeps : StoreState → StoreState → Volume → Volume → Type 0)
     (opens : (old new : StoreState) (v v' : Volume) → Keeps old new v v' → Holds new v')
@@ -21,14 +21,14 @@ module _ (T : Types) (known : AreKnown T) (held : List ℕ) (Holds : StoreState 
     (frees : (old new : StoreState) (v v' : Volume) → Holds old v → IsAsBeforeButOrphans T held old new v v' → Keeps old new v v')
     {A : Type 0} (Does : StoreState → StoreState → Volume → Volume → Result A Fault → Type 0) where
   same : (s : StoreState) (v : Volume) → Holds s v → Keeps s s v v
-  same s v holds = frees s s v v holds (as_before T known held s s v v (before_same T s v (is_open s v holds)))
+  same s v holds = frees s s v v holds (as_before T held s s v v (before_same T s v (is_open s v holds)))
 
   room : (old new : StoreState) (v v' : Volume) (result : Result Bool Fault) → Holds old v → MakesRoom T old new v v' result → Keeps old new v v'
   room old new v v' result holds makes =
-      frees old new v v' holds (as_before T known held old new v v' (known.room old new v v' result (is_open old v holds) makes))
+      frees old new v v' holds (as_before T held old new v v' (room_before T old new v v' result (is_open old v holds) makes))
 
   syncs : (old new : StoreState) (v v' : Volume) (result : Result (Unit {0}) Fault) → Holds old v → Syncs T held old new v v' result → Keeps old new v v'
-  syncs old new v v' result holds is = frees old new v v' holds (syncs_unheld T known held old new v v' result (is_open old v holds) is)
+  syncs old new v v' result holds is = frees old new v v' holds (syncs_unheld T held old new v v' result (is_open old v holds) is)
 
   module _ (refused : (old new : StoreState) (v v' : Volume) (fault : Fault) → Holds old v → IsAgain fault → Does old new v v' (Err fault) →
       Keeps old new v v') where

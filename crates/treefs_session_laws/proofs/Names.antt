@@ -9,7 +9,7 @@ use Rattle.treefs_laws.specs.Kept.{files_in}
 use Rattle.treefs_laws.specs.Open.{IsOpen}
 use Rattle.treefs_laws.specs.Refusals.{IsOfStore, IsRefused}
 use Rattle.treefs_session_laws.specs.Before.{IsAsBefore}
-use Rattle.treefs_session_laws.proofs.Done.{before_same}
+use Rattle.treefs_session_laws.proofs.Room.{before_same}
 
 -- a call that is full is not refused by the store
 pub not_of_store : IsOfStore Full → ⊥

@@ -22,7 +22,7 @@ use Rattle.treefs_session.specs.Freeing.{MakesFreely}
 use Rattle.treefs_session_laws.specs.Before.{IsAsBefore, IsAsBeforeButOrphans}
 use Rattle.treefs_session_laws.specs.Puts.{GetsName}
 use Rattle.treefs_session_laws.proofs.Again.{again_before, leaves_before}
-use Rattle.treefs_session_laws.proofs.Freed.{AreKnown, as_before, made_freely, unheld_then}
+use Rattle.treefs_session_laws.proofs.Freed.{as_before, made_freely, unheld_then}
 use Rattle.treefs_session_laws.proofs.Kept.{made_told}
 use Rattle.treefs_session_laws.proofs.Names.{full_before, not_of_store}
 use Rattle.treefs_session_laws.proofs.Tried.{IsAgain}
@@ -80,7 +80,7 @@ pub record AreCommits (T : Types) : Type 0 where
       IsBegun s v block inode → All (λ b. b < 256) name → CommitDoes T s s' v v' block d name replace (Ok n) →
       IsOpen T s' v' × GetsName (files_in s v) (files_in s' v') v.memory.clock d name replace n inode
 
-module _ (T : Types) (known : AreKnown T) (commits : AreCommits T) (held : List ℕ) (block d : ℕ) (name : List ℕ) (replace : Bool) where
+module _ (T : Types) (commits : AreCommits T) (held : List ℕ) (block d : ℕ) (name : List ℕ) (replace : Bool) where
   abbrev Commits : StoreState → StoreState → Volume → Volume → Result ℕ Fault → Type 0
   Commits s s' v v' result = CommitDoes T s s' v v' block d name replace result
 
@@ -100,7 +100,7 @@ module _ (T : Types) (known : AreKnown T) (commits : AreCommits T) (held : List 
   pub placed : (old new : StoreState) (v v' : Volume) (inode : Inode) (n : ℕ) → IsOpen T old v → IsBegun old v block inode → IsUnnamed old v block →
       All (λ b. b < 256) name → MakesFreely Commits T held old new v v' (Ok n) → IsPlaced old new v v' n inode
   placed old new v v' inode n is_open begun unnamed wide makes =
-      let last = made_freely T known held Commits again old new v v' n is_open makes in
+      let last = made_freely T held Commits again old new v v' n is_open makes in
       let before : IsAsBeforeButOrphans T held old last.0 v last.1 = last.2 in
       let kept = before.unnamed block unnamed in
       let clock : last.1.memory.clock ≡ v.memory.clock = before.clock in
@@ -117,15 +117,15 @@ module _ (T : Types) (known : AreKnown T) (commits : AreCommits T) (held : List 
   unmade old new v v' fault is_open other does = by (commits.refused old new v v' block d name replace fault does)
     where
       by : (v' ≡ v) × ((new ≡ old) ⊎ IsOfStore fault) → IsAsBeforeButOrphans T held old new v v'
-      by (still, inl same) = as_before T known held old new v v' (full_before T old new v v' is_open same still)
+      by (still, inl same) = as_before T held old new v v' (full_before T old new v v' is_open same still)
       by (still, inr (inl space)) =
-          as_before T known held old new v v' (leaves_before T old new v v' (commits.space old new v v' block d name replace fault is_open (inl space) does))
+          as_before T held old new v v' (leaves_before T old new v v' (commits.space old new v v' block d name replace fault is_open (inl space) does))
       by (still, inr (inr (reason, is))) = absurd (other reason is)
 
   pub not_placed : (old new : StoreState) (v v' : Volume) (fault : Fault) → IsOpen T old v → ((reason : Refusal) → fault ≢ Kernel reason) →
       MakesFreely Commits T held old new v v' (Err fault) → IsAsBeforeButOrphans T held old new v v'
   not_placed old new v v' fault is_open other makes =
-      made_told T known held (IsOpen T) (λ s v is_open. is_open) (IsAsBeforeButOrphans T held) (λ old new v v' is. is.is_open) (unheld_then T known held)
+      made_told T held (IsOpen T) (λ s v is_open. is_open) (IsAsBeforeButOrphans T held) (λ old new v v' is. is.is_open) (unheld_then T held)
       (λ old new v v' is_open is. is) Commits
-      (λ old new v v' fault is_open is does. as_before T known held old new v v' (again old new v v' fault is_open is does)) Other unmade old new v v' fault
+      (λ old new v v' fault is_open is does. as_before T held old new v v' (again old new v v' fault is_open is does)) Other unmade old new v v' fault
       is_open other makes

@@ -1,5 +1,5 @@
 -- A session puts a whole file or symbolic link.
-use Rattle.std.proofs.Common.{◌≡◌, ◌≢◌, ℕ, ◌-◌, ◌<◌, ◌≤◌, Bool, true, List, take, drop, length, Result, Ok, Err, sym, inl, inr, arith, subst, length-drop}
+use Rattle.std.proofs.Common.{◌≡◌, ◌≢◌, ℕ, ◌<◌, ◌≤◌, Bool, true, List, take, drop, length, Result, Ok, Err, sym, inl, inr, arith, subst, length-drop}
 use Rattle.std.specs.Prelude.{All}
 use Rattle.std.proofs.lemmas.List.{take_all}
 use Rattle.std.proofs.lemmas.List.Elements.{All-drop}
@@ -27,7 +27,7 @@ use Rattle.treefs_session.specs.declared.put.Put.{Put}
 use Rattle.treefs_session_laws.specs.Before.{IsUnheld}
 use Rattle.treefs_session_laws.specs.Puts.{GetsName}
 use Rattle.treefs_session_laws.proofs.Begun.{begins, begins_in_vain, begun_so}
-use Rattle.treefs_session_laws.proofs.Freed.{AreKnown, held_or_not}
+use Rattle.treefs_session_laws.proofs.Freed.{held_or_not}
 use Rattle.treefs_session_laws.proofs.GivenUp.{given_up}
 use Rattle.treefs_session_laws.proofs.Naming.{AreCommits, not_placed, placed}
 use Rattle.treefs_session_laws.proofs.Written.{none_written}
@@ -48,7 +48,7 @@ pub record AreBegins (T : Types) (put : Put) : Type 0 where
       GiveUpDoes T old new v block result →
       IsOpen T new v × (files_in new v ≡ files_in old v) × (result ≢ Ok true → IsUnnamed new v block)
 
-module _ (T : Types) (known : AreKnown T) (commits : AreCommits T) (held : List ℕ) (put : Put) (laws : AreBegins T put) (file : put.kind ≢ kinds.Directory)
+module _ (T : Types) (commits : AreCommits T) (held : List ℕ) (put : Put) (laws : AreBegins T put) (file : put.kind ≢ kinds.Directory)
     (wide : All (λ b. b < 256) put.bytes.now) where
   abbrev Reaped : Files → Files → Type 0
   Reaped = IsReaped (IsUnheld held)
@@ -68,29 +68,29 @@ module _ (T : Types) (known : AreKnown T) (commits : AreCommits T) (held : List 
     not_named : (new : StoreState) (v' : Volume) (fault : Fault) → ((reason : Refusal) → fault ≢ Kernel reason) → WritesAndNames T held put block old new v v' (Err fault) →
         Left old new v v' × IsUnnamed new v' block
     not_named new v' fault other (inl writes) =
-        let is = begun_so T known held block (laws.writes block) 384 (drop 384 put.bytes.now) old new v v' (Err fault) (is_open, unnamed)
+        let is = begun_so T held block (laws.writes block) 384 (drop 384 put.bytes.now) old new v v' (Err fault) (is_open, unnamed)
         (All-drop (λ b. b < 256) 384 put.bytes.now wide) writes in
         ((is.is_open, is.files), is.unnamed)
     not_named new v' fault other (inr (middle, w, writes, names)) =
-        let is = begun_so T known held block (laws.writes block) 384 (drop 384 put.bytes.now) old middle v w (Ok tt) (is_open, unnamed)
+        let is = begun_so T held block (laws.writes block) 384 (drop 384 put.bytes.now) old middle v w (Ok tt) (is_open, unnamed)
         (All-drop (λ b. b < 256) 384 put.bytes.now wide) writes in
-        let n = not_placed T known commits held block put.directory put.name.now put.replace middle new w v' fault is.is_open other names in
+        let n = not_placed T commits held block put.directory put.name.now put.replace middle new w v' fault is.is_open other names in
         ((n.is_open, reaped_on (files_in old v) (files_in middle w) (files_in new v') is.files n.files), (n.unnamed block is.unnamed).0)
 
     not_finished : (new : StoreState) (v' : Volume) (fault : Fault) → ((reason : Refusal) → fault ≢ Kernel reason) → Finishes T held put block old new v v' (Err fault) →
         Left old new v v'
     not_finished new v' fault other (middle, w, given, does, gives_up) =
         let n = not_named middle w fault other does in
-        let g = given_up T known block (laws.gives block) middle new w v' given (n.0.0, n.1) gives_up in
+        let g = given_up T block (laws.gives block) middle new w v' given (n.0.0, n.1) gives_up in
         (g.is_open, subst (Reaped (files_in old v)) (sym g.files) n.0.1)
 
   pub not_put : (old new : StoreState) (v v' : Volume) (fault : Fault) → IsOpen T old v → ((reason : Refusal) → fault ≢ Kernel reason) → PutDoes T held put old new v v' (Err fault) →
       IsOpen T new v' × IsReaped (IsUnheld held) (files_in old v) (files_in new v')
   not_put old new v v' fault is_open other (inl not_begun) =
-      let is = begins_in_vain T known held put.kind put.attributes (take 384 put.bytes.now) laws.refused old new v v' fault is_open not_begun in
+      let is = begins_in_vain T held put.kind put.attributes (take 384 put.bytes.now) laws.refused old new v v' fault is_open not_begun in
       (is.is_open, is.files)
   not_put old new v v' fault is_open other (inr (block, middle, w, is_begun, finishes)) =
-      let b = begins T known held put.kind put.attributes (take 384 put.bytes.now) laws.refused laws.begun old middle v w block is_open is_begun in
+      let b = begins T held put.kind put.attributes (take 384 put.bytes.now) laws.refused laws.begun old middle v w block is_open is_begun in
       let left = not_finished block middle w b.0 (laws.unnamed middle w block (inode v) b.0 (b.3 file)) new v' fault other finishes in
       (left.0, reaped_on (files_in old v) (files_in middle w) (files_in new v') b.1 left.1)
 
@@ -112,7 +112,7 @@ module _ (T : Types) (known : AreKnown T) (commits : AreCommits T) (held : List 
     finished block old v is_open said begun new v' n (inl none) = absurd none
     finished block old v is_open said begun new v' n (inr (middle, w, writes, names)) =
         let none = none_written T held _ (drop 384 put.bytes.now) old middle v w (Ok tt) writes none_left in
-        let p = placed T known commits held block put.directory put.name.now put.replace old new v v' said n is_open begun
+        let p = placed T commits held block put.directory put.name.now put.replace old new v v' said n is_open begun
         (laws.unnamed old v block said is_open begun) name_wide (subst (λ u. Names_at old u) none.2 (subst (λ s. Names_at s w) none.1 names)) in
         (p.0, files_in p.1 p.2, p.3.files, p.4)
       where
@@ -126,7 +126,7 @@ module _ (T : Types) (known : AreKnown T) (commits : AreCommits T) (held : List 
     pub is_put : (old new : StoreState) (v v' : Volume) (n : ℕ) → IsOpen T old v → PutDoes T held put old new v v' (Ok n) → IsPut old new v v' n
     is_put old new v v' n is_open (inl none) = absurd none
     is_put old new v v' n is_open (inr (block, middle, w, is_begun, finishes)) =
-        let b = begins T known held put.kind put.attributes (take 384 put.bytes.now) laws.refused laws.begun old middle v w block is_open is_begun in
+        let b = begins T held put.kind put.attributes (take 384 put.bytes.now) laws.refused laws.begun old middle v w block is_open is_begun in
         let f = finished block middle w b.0 (inode v) (b.3 file) new v' n finishes in
         let clock : w.memory.clock ≡ v.memory.clock = b.2 in (
           f.0,

@@ -1,45 +1,48 @@
 -- What is done to make room changes no file.
-use Rattle.std.proofs.Common.{◌≡◌, Bool, Result, Ok, Err, sym, ap, inl, inr, subst}
-use Rattle.xn_kernel.specs.FlushedStates.{StateRefuses, StateWaves}
+use Rattle.std.proofs.Common.{Bool, Result, Ok, Err, sym, ◌∙◌, ap, inl, inr, refl, subst}
 use Rattle.xn_model.specs.Lives.{StoreState}
 use Rattle.xn_model.specs.Types.{Types}
-use Rattle.store_types.specs.declared.refusal.Refusal.{Refusal}
 use Rattle.treefs_model.specs.declared.fault.Fault.{Fault}
 use Rattle.treefs.specs.WritingTimes.{WriteTimesDoes}
 use Rattle.treefs.specs.declared.volume.Volume.{Volume}
-use Rattle.treefs_laws.specs.Kept.{files_in}
 use Rattle.treefs_laws.specs.Open.{IsOpen}
-use Rattle.treefs_laws.specs.Unnamed.{KeepsUnnamed}
+use Rattle.treefs_lookup.specs.Readable.{readable}
+use Rattle.treefs_laws.proofs.ForCallers.{alike_same, times_keep, unnamed_then}
 use Rattle.treefs_session.specs.Tries.{MakesRoom, WritesTouched}
 use Rattle.treefs_session_laws.specs.Before.{IsAsBefore}
-use Rattle.treefs_session_laws.proofs.Done.{before_same}
+use Rattle.treefs_session_laws.proofs.Flushed.{stopped_before, waves_before}
 
-module _ (T : Types) (old new : StoreState) (volume volume' : Volume) (is_open : IsOpen T old volume) where
-  abbrev Same : Volume → Type 0
-  Same v = IsAsBefore T old new volume v
+pub before_same : (T : Types) (state : StoreState) (volume : Volume) → IsOpen T state volume → IsAsBefore T state state volume volume
+before_same T state volume is_open = record { is_open = is_open; files = refl; tree = refl; clock = refl; unnamed = λ block unnamed. (unnamed, alike_same (readable state volume.tree.fs.number) block) }
 
-  -- times that get their edits
-  times_before : (told : Result (Unit {0}) Fault) → WriteTimesDoes T old new volume volume' told →
-      (WriteTimesDoes T old new volume volume' told → IsOpen T new volume' × (files_in new volume' ≡ files_in old volume) × KeepsUnnamed old new volume volume') → Same volume'
-  times_before told writes law = record {
-    is_open = (law writes).0;
-    files = (law writes).1;
-    tree = ap (λ (v : Volume). v.tree) writes.2;
-    clock = ap (λ (v : Volume). v.memory.clock) writes.2;
-    unnamed = (law writes).2;
-  }
+pub before_then : (T : Types) (old middle new : StoreState) (volume between volume' : Volume) → IsAsBefore T old middle volume between →
+    IsAsBefore T middle new between volume' → IsAsBefore T old new volume volume'
+before_then T old middle new volume between volume' first next = record {
+  is_open = next.is_open;
+  files = next.files ∙ first.files;
+  tree = next.tree ∙ first.tree;
+  clock = next.clock ∙ first.clock;
+  unnamed = unnamed_then old middle new volume between volume' first.unnamed next.unnamed;
+}
 
-  touched_before : (result : Result Bool Fault) → WritesTouched T old new volume volume' result →
-      ((told : Result (Unit {0}) Fault) → WriteTimesDoes T old new volume volume' told → IsOpen T new volume' × (files_in new volume' ≡ files_in old volume) × KeepsUnnamed old new volume volume') →
-      Same volume'
-  touched_before result (inl none) law =
-      subst (λ v. IsAsBefore T old new volume v) (sym none.3) (subst (λ s. IsAsBefore T old s volume volume) (sym none.2) (before_same T old volume is_open))
-  touched_before (Ok more) (inr some) law = times_before (Ok tt) some.1.1 (law (Ok tt))
-  touched_before (Err fault) (inr some) law = times_before (Err fault) some.1 (law (Err fault))
+-- times get their edits
+pub times_before : (T : Types) (old new : StoreState) (volume volume' : Volume) (told : Result (Unit {0}) Fault) → IsOpen T old volume →
+    WriteTimesDoes T old new volume volume' told → IsAsBefore T old new volume volume'
+times_before T old new volume volume' told is_open writes =
+    let kept = times_keep T old new volume volume' told is_open writes in
+    record { is_open = kept.0; files = kept.1; tree = ap (λ (v : Volume). v.tree) writes.2; clock = ap (λ (v : Volume). v.memory.clock) writes.2; unnamed = kept.2 }
 
-  pub room_before : (result : Result Bool Fault) → (StateWaves 1 old new → Same volume) → ((refusal : Refusal) → StateRefuses old refusal new → Same volume) →
-      ((told : Result (Unit {0}) Fault) → WriteTimesDoes T old new volume volume' told → IsOpen T new volume' × (files_in new volume' ≡ files_in old volume) × KeepsUnnamed old new volume volume') →
-      MakesRoom T old new volume volume' result → Same volume'
-  room_before result wave refused times (inl w) = subst Same (sym w.3) (wave w.1)
-  room_before result wave refused times (inr (inl idle)) = touched_before result idle.2 times
-  room_before result wave refused times (inr (inr r)) = subst Same (sym r.3) (refused r.0 r.2)
+touched_before : (T : Types) (old new : StoreState) (volume volume' : Volume) (result : Result Bool Fault) → IsOpen T old volume →
+    WritesTouched T old new volume volume' result → IsAsBefore T old new volume volume'
+touched_before T old new volume volume' result is_open (inl none) =
+    subst (λ v. IsAsBefore T old new volume v) (sym none.3) (subst (λ s. IsAsBefore T old s volume volume) (sym none.2) (before_same T old volume is_open))
+touched_before T old new volume volume' (Ok more) is_open (inr some) = times_before T old new volume volume' (Ok tt) is_open some.1.1
+touched_before T old new volume volume' (Err fault) is_open (inr some) = times_before T old new volume volume' (Err fault) is_open some.1
+
+pub room_before : (T : Types) (old new : StoreState) (volume volume' : Volume) (result : Result Bool Fault) → IsOpen T old volume →
+    MakesRoom T old new volume volume' result → IsAsBefore T old new volume volume'
+room_before T old new volume volume' result is_open (inl wave) =
+    subst (λ v. IsAsBefore T old new volume v) (sym wave.3) (waves_before T old new volume 1 is_open wave.1)
+room_before T old new volume volume' result is_open (inr (inl idle)) = touched_before T old new volume volume' result is_open idle.2
+room_before T old new volume volume' result is_open (inr (inr refused)) =
+    subst (λ v. IsAsBefore T old new volume v) (sym refused.3) (stopped_before T old new volume refused.0 is_open refused.2)

@@ -15,7 +15,7 @@ use Rattle.treefs_laws.proofs.ForCallers.{reaped_same}
 use Rattle.treefs_session.specs.Freeing.{MakesFreely}
 use Rattle.treefs_session_laws.specs.Before.{IsAsBeforeButOrphans, IsUnheld}
 use Rattle.treefs_session_laws.proofs.Altered.{AreSized, AreTruncated, sized_end, sized_then}
-use Rattle.treefs_session_laws.proofs.Freed.{AreKnown, held_or_not}
+use Rattle.treefs_session_laws.proofs.Freed.{held_or_not}
 use Rattle.treefs_session_laws.proofs.Kept.{made_last}
 
 -- the session's place and clock stay
@@ -37,7 +37,7 @@ truncate_stays T old new v v' n size result (kept, trims, inl (failed, is)) = sa
 truncate_stays T old new v v' n size result (kept, trims, inr (middle, trimmed, does)) =
     size_stays T middle new v v' n (truncate_planned middle v.tree v.memory n size) result does
 
-module _ (T : Types) (known : AreKnown T) (held : List ℕ) (n size : ℕ) where
+module _ (T : Types) (held : List ℕ) (n size : ℕ) where
   pub record IsSized (old new : StoreState) (v v' : Volume) : Type 0 where
     pub is_open : IsOpen T new v'
     pub files : AreSized (IsUnheld held) (held_or_not held) v.memory.clock n size (files_in old v) (files_in new v')
@@ -86,7 +86,7 @@ module _ (T : Types) (known : AreKnown T) (held : List ℕ) (n size : ℕ) where
     pub session_sizes : (old new : StoreState) (v v' : Volume) → IsOpen T old v → MakesFreely Sizes T held old new v v' (Ok tt) →
         IsOpen T new v' × AreTruncated (IsUnheld held) (held_or_not held) v.memory.clock n size (files_in old v) (files_in new v')
     session_sizes old new v v' is_open makes =
-        let last = made_last T known held (IsOpen T) (λ s v holds. holds) IsSized (λ old new v v' is. is.is_open) chain
+        let last = made_last T held (IsOpen T) (λ s v holds. holds) IsSized (λ old new v v' is. is.is_open) chain
         (λ old new v v' holds is. frees old new v v' is) Sizes
         (λ old new v v' fault is_open again does. refused old new v v' fault is_open does) old new v v' tt is_open makes in
         let d = done last.0 new last.1 v' (last.2).is_open last.3 in (

@@ -80,9 +80,7 @@ told_space T old new volume volume' (Err g) fault makes is = subst HasSpace (sam
 
 module _ {A : Type 0} (T : Types) (Does' : StoreState → StoreState → Volume → Volume → Result A Fault → Type 0)
     (full : (before after : StoreState) (v v' : Volume) → IsOpen T before v → Does' before after v v' (Err Full) → IsAsBefore T before after v v')
-    (space : (before after : StoreState) (v v' : Volume) (fault : Fault) → IsOpen T before v → Does' before after v v' (Err fault) → HasSpace fault)
-    (room : (before after : StoreState) (v v' : Volume) (result : Result Bool Fault) → IsOpen T before v → MakesRoom T before after v v' result →
-    IsAsBefore T before after v v') where
+    (space : (before after : StoreState) (v v' : Volume) (fault : Fault) → IsOpen T before v → Does' before after v v' (Err fault) → HasSpace fault) where
   told_once : (old new : StoreState) (volume volume' : Volume) (fault : Fault) → IsOpen T old volume →
       TriesOnce Does' T old new volume volume' (Some (Err fault)) →
       HasSpace fault
@@ -109,10 +107,10 @@ module _ {A : Type 0} (T : Types) (Does' : StoreState → StoreState → Volume 
   tries_space zero old new volume volume' fault is_open tries = ap lacks_space (same_Err {A = A} fault Full tries.0)
   tries_space (suc left) old new volume volume' fault is_open (inl last) = told_once old new volume volume' fault is_open last
   tries_space (suc left) old new volume volume' fault is_open (inr (middle, between, first, rest)) =
-      tries_space left middle new between volume' fault (again T Does' full room old middle volume between is_open first).is_open rest
+      tries_space left middle new between volume' fault (again T Does' full old middle volume between is_open first).is_open rest
 
   pub made_once : (held : List ℕ) (old new : StoreState) (volume volume' : Volume) (answer : A) → IsOpen T old volume →
-      MakesFreely Does' T held old new volume volume' (Ok answer) → IsDone T Does' full room old new volume volume' answer
-  made_once held old new volume volume' answer is_open (inl first) = done_once T Does' full room most_tries old new volume volume' answer is_open first.0
+      MakesFreely Does' T held old new volume volume' (Ok answer) → IsDone T Does' full old new volume volume' answer
+  made_once held old new volume volume' answer is_open (inl first) = done_once T Does' full most_tries old new volume volume' answer is_open first.0
   made_once held old new volume volume' answer is_open (inr (fault, middle, between, tries, lacks, frees)) =
       absurd (cc (sym lacks ∙ tries_space most_tries old middle volume between fault is_open tries))

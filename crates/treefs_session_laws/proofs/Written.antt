@@ -28,8 +28,8 @@ use Rattle.treefs_session.specs.declared.calls.bytes.Target.{Target}
 use Rattle.treefs_session.specs.declared.calls.bytes.Target.TheVariants.{Numbered}
 use Rattle.treefs_session_laws.specs.Before.{IsAsBeforeButOrphans, IsUnheld}
 use Rattle.treefs_session_laws.specs.Written.{ArePartlyWritten}
-use Rattle.treefs_session_laws.proofs.Done.{before_same}
-use Rattle.treefs_session_laws.proofs.Freed.{AreKnown, as_before, held_or_not}
+use Rattle.treefs_session_laws.proofs.Room.{before_same}
+use Rattle.treefs_session_laws.proofs.Freed.{as_before, held_or_not}
 use Rattle.treefs_session_laws.proofs.Kept.{made_in_vain, made_last}
 use Rattle.treefs_session_laws.proofs.Rewriting.{AreWritten, few_written, part_written, put_written, reaped_written, whole_written, write_written, written_then}
 use Rattle.treefs_session_laws.proofs.Sized.{Stays, same_stays}
@@ -67,7 +67,7 @@ pub record AreWrites (T : Types) (n : ℕ) : Type 0 where
       (v' ≡ v) × IsOpen T new v
       × ((files_in new v ≡ files_in old v) ⊎ (IsOfStore fault × IsPartlyPut (files_in old v) n at bytes (files_in new v)))
 
-module _ (T : Types) (known : AreKnown T) (held : List ℕ) (n : ℕ) (writes : AreWrites T n) where
+module _ (T : Types) (held : List ℕ) (n : ℕ) (writes : AreWrites T n) where
   abbrev pub Holds : StoreState → Volume → Type 0
   Holds s v = IsOpen T s v × HasFewBytes (files_in s v) n
 
@@ -168,7 +168,7 @@ module _ (T : Types) (known : AreKnown T) (held : List ℕ) (n : ℕ) (writes : 
       pub piece_done : (old new : StoreState) (v v' : Volume) (taken : ℕ) → 0 < length bytes → Holds old v → MakesFreely Writes T held old new v v' (Ok taken) →
           IsAsWritten at bytes taken old new v v' × IsTaken taken
       piece_done old new v v' taken some holds makes =
-          let last = made_last T known held Holds (λ s v holds. holds.0) Puts (λ old new v v' is. (is.is_open, is.few))
+          let last = made_last T held Holds (λ s v holds. holds.0) Puts (λ old new v v' is. (is.is_open, is.few))
           (λ old middle new v w x first second. then 0 old middle new v w x first second) frees Writes
           (λ old new v v' fault holds again does. refused old new v v' fault holds does) old new v v' taken holds makes in
           let d = done last.0 new last.1 v' taken some ((last.2).is_open, (last.2).few) last.3 in
@@ -177,7 +177,7 @@ module _ (T : Types) (known : AreKnown T) (held : List ℕ) (n : ℕ) (writes : 
       pub piece_refused : (old new : StoreState) (v v' : Volume) (fault : Fault) → Holds old v → MakesFreely Writes T held old new v v' (Err fault) →
           IsAsWritten at bytes 0 old new v v'
       piece_refused old new v v' fault holds makes =
-          made_in_vain T known held Holds (λ s v holds. holds.0) Puts (λ old new v v' is. (is.is_open, is.few))
+          made_in_vain T held Holds (λ s v holds. holds.0) Puts (λ old new v v' is. (is.is_open, is.few))
           (λ old middle new v w x first second. then 0 old middle new v w x first second) frees Writes refused old new v v' fault holds makes
 
   -- one piece after another
@@ -187,7 +187,7 @@ module _ (T : Types) (known : AreKnown T) (held : List ℕ) (n : ℕ) (writes : 
       × MatchResult result (λ done. k ≡ length bytes) (λ fault. ⊤)
 
   same_written : (at : ℕ) (bytes : List ℕ) (s : StoreState) (v : Volume) → Holds s v → IsAsWritten at bytes 0 s s v v
-  same_written at bytes s v holds = frees at bytes s s v v holds (as_before T known held s s v v (before_same T s v holds.0))
+  same_written at bytes s v holds = frees at bytes s s v v holds (as_before T held s s v v (before_same T s v holds.0))
 
   advanced_to : (at taken : ℕ) → at + taken ≤ greatest_size → advanced (Numbered n at) taken ≡ Numbered n (at + taken)
   advanced_to at taken small = ap (Numbered n) (let same : min (at + taken) (2 ^ 64 - 1) ≡ at + taken = omega arith in same)

@@ -19,12 +19,7 @@ ghost use Rattle.treefs_session.specs.declared.calls.bytes.Target.TheVariants.{N
 ghost use Rattle.treefs_session_laws.specs.Before.{IsUnheld};
 ghost use Rattle.treefs_session_laws.specs.Written.{ArePartlyWritten};
 
-use crate::law::{flushes_change_no_file, making_room_changes_no_file};
-use treefs_laws::law::{
-    refused_write_keeps_the_session, truncate_sets_a_size, write_changes_bytes,
-    write_times_changes_no_file,
-};
-use treefs_laws::orphans::reap_frees_orphans;
+use treefs_laws::law::{refused_write_keeps_the_session, write_changes_bytes};
 
 /// `truncate` by a session sets the size of a file or a symbolic link, and does nothing else, but that inodes without links that aren't held may be freed. A try
 /// that is refused may have set the size; the next one then changes nothing more, since a size that is set twice at one time is set once.
@@ -35,13 +30,7 @@ pub fn sessions_set_a_size()
         × IsReaped (IsUnheld held) files (files_in new volume') }
     ensures again { (files files' : Files) (time : ℤ) (number size : ℕ) → truncated files time number size ≡ Ok files' →
         truncated files' time number size ≡ Ok files' }
-{
-    making_room_changes_no_file();
-    flushes_change_no_file();
-    write_times_changes_no_file();
-    reap_frees_orphans();
-    truncate_sets_a_size();
-}
+{}
 
 /// Bytes that a session writes, piece by piece, over those of a file or a symbolic link: once all are written they stand there from a byte on, with zeros before
 /// them where the file ended before, its times are the caller's, and nothing else changes, but that inodes without links that aren't held may be freed. Where
@@ -63,10 +52,6 @@ pub fn sessions_write_bytes()
         (result : Result (Unit {0}) Fault) → length bytes ≡ 0 → WritesAll T held target bytes old new volume volume' result →
         (result ≡ Ok tt) × (new ≡ old) × (volume' ≡ volume) }
 {
-    making_room_changes_no_file();
-    flushes_change_no_file();
-    write_times_changes_no_file();
-    reap_frees_orphans();
     write_changes_bytes();
     refused_write_keeps_the_session();
 }
@@ -86,10 +71,6 @@ pub fn sessions_write_a_piece()
         IsOpen T new volume' × (files : Files) × ArePartlyWritten (files_in old volume) volume.memory.clock number at bytes 0 files
         × IsReaped (IsUnheld held) files (files_in new volume') × HasFewBytes (files_in new volume') number }
 {
-    making_room_changes_no_file();
-    flushes_change_no_file();
-    write_times_changes_no_file();
-    reap_frees_orphans();
     write_changes_bytes();
     refused_write_keeps_the_session();
 }

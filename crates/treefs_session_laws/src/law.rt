@@ -21,11 +21,9 @@ ghost use Rattle.treefs_session.specs.Freeing.{MakesFreely, lacks_space};
 ghost use Rattle.treefs_session.specs.Tries.{MakesRoom, Tries};
 ghost use Rattle.treefs_session_laws.specs.Before.{IsAsBefore};
 
-use flush_store::law::flushes_keep_newest;
 use treefs_laws::law::{
     open_volumes_stay_open, refused_attributes_change_nothing, refused_unlink_answers_the_files,
     set_attributes_sets_what_is_told, set_mtime_sets_a_time, unlink_ends_a_name,
-    write_times_changes_no_file,
 };
 use treefs_session::Call;
 
@@ -35,18 +33,13 @@ pub fn flushes_change_no_file()
         IsAsBefore T old new volume volume }
     ensures refused { (T : Types) (old new : StoreState) (volume : Volume) (refusal : Refusal) → IsOpen T old volume → StateRefuses old refusal new →
         IsAsBefore T old new volume volume }
-{
-    flushes_keep_newest();
-}
+{}
 
 /// What is done to make room for a call changes no file, whatever it answers.
 pub fn making_room_changes_no_file()
     ensures { (T : Types) (old new : StoreState) (volume volume' : Volume) (result : Result Bool Fault) → IsOpen T old volume →
         MakesRoom T old new volume volume' result → IsAsBefore T old new volume volume' }
-{
-    flushes_change_no_file();
-    write_times_changes_no_file();
-}
+{}
 
 /// A call that is made until it has room is done once, on a volume that is as before: told is that it leaves the volume so where it is full.
 pub fn calls_are_done_once<C: Call>()
@@ -54,9 +47,7 @@ pub fn calls_are_done_once<C: Call>()
         ((before after : StoreState) (v v' : Volume) → IsOpen T before v → C.does call T before after v v' (Err Full) → IsAsBefore T before after v v') →
         IsOpen T old volume → Tries (C.does call T) T left old new volume volume' (Ok answer) →
         (middle : StoreState) × (between : Volume) × IsAsBefore T old middle volume between × C.does call T middle new between volume' (Ok answer) }
-{
-    making_room_changes_no_file();
-}
+{}
 
 /// A call that a session makes is done once, on a volume that is as before, where it never finds too little space: then nothing is freed for it. Told
 /// are that it leaves an open volume as before where it is full, and that it answers no want of space.
@@ -67,9 +58,7 @@ pub fn calls_that_need_no_space_are_done_once<C: Call>()
         lacks_space fault ≡ false) →
         IsOpen T old volume → MakesFreely (C.does call T) T held old new volume volume' (Ok answer) →
         (middle : StoreState) × (between : Volume) × IsAsBefore T old middle volume between × C.does call T middle new between volume' (Ok answer) }
-{
-    making_room_changes_no_file();
-}
+{}
 
 /// `unlink` by a session ends the name and does nothing else: the files are those of before, but for this name.
 pub fn sessions_end_a_name()
@@ -77,7 +66,6 @@ pub fn sessions_end_a_name()
         MakesFreely (λ s s' v v' result. UnlinkDoes T s s' v v' d name result) T held old new volume volume' (Ok tt) →
         IsOpen T new volume' × (unlinked (files_in old volume) volume.memory.clock d name ≡ Ok (files_in new volume')) }
 {
-    making_room_changes_no_file();
     refused_unlink_answers_the_files();
     unlink_ends_a_name();
     open_volumes_stay_open();
@@ -91,7 +79,6 @@ pub fn sessions_set_attributes()
         IsOpen T new volume' × (and_then (found (files_in old volume) n)
         (λ inode. Ok (changed_at (files_in old volume) n (with_attributes volume.memory.clock attributes))) ≡ Ok (files_in new volume')) }
 {
-    making_room_changes_no_file();
     refused_attributes_change_nothing();
     set_attributes_sets_what_is_told();
     open_volumes_stay_open();
@@ -105,7 +92,6 @@ pub fn sessions_set_a_time()
         IsOpen T new volume' × (and_then (found (files_in old volume) n)
         (λ inode. Ok (changed_at (files_in old volume) n (with_mtime volume.memory.clock mtime))) ≡ Ok (files_in new volume')) }
 {
-    making_room_changes_no_file();
     refused_attributes_change_nothing();
     set_mtime_sets_a_time();
     open_volumes_stay_open();

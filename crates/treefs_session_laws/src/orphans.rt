@@ -22,15 +22,12 @@ ghost use Rattle.treefs_session.specs.Opening.{Closes, IsNotClosed};
 ghost use Rattle.treefs_session.specs.Tries.{is_full};
 ghost use Rattle.treefs_session_laws.specs.Before.{IsAsBefore, IsAsBeforeButOrphans};
 
-use crate::law::{flushes_change_no_file, making_room_changes_no_file};
 use treefs_laws::law::{
     create_makes_a_file, link_makes_a_name, mkdir_makes_a_directory, open_volumes_stay_open,
     refused_link_answers_the_files, refused_new_inodes_answer_the_files,
     refused_rename_answers_the_files, refused_rmdir_answers_the_files, rename_moves_a_name,
-    rmdir_ends_an_empty_directory, symlink_makes_a_link, write_times_changes_no_file,
+    rmdir_ends_an_empty_directory, symlink_makes_a_link,
 };
-use treefs_laws::marks::marks_change_no_file;
-use treefs_laws::orphans::reap_frees_orphans;
 use treefs_laws::space::want_of_space_changes_no_file;
 use treefs_session::Call;
 
@@ -41,12 +38,7 @@ pub fn syncs_free_orphans_alone()
         Syncs T held old new volume volume' result → IsAsBeforeButOrphans T held old new volume volume' }
     ensures done { (T : Types) (held : List ℕ) (old new : StoreState) (volume volume' : Volume) → IsOpen T old volume →
         Syncs T held old new volume volume' (Ok tt) → files_in new volume' ≡ without_orphans (unheld held volume.memory.orphans) (files_in old volume) }
-{
-    making_room_changes_no_file();
-    flushes_change_no_file();
-    write_times_changes_no_file();
-    reap_frees_orphans();
-}
+{}
 
 /// Closing a session changes nothing but inodes without links, whatever it answers. Once it is closed those that waited to be freed are gone, and nothing else
 /// is.
@@ -56,13 +48,7 @@ pub fn closes_free_orphans_alone()
     ensures done { (T : Types) (old new : StoreState) (volume : Volume) → IsOpen T old volume → Closes T old new volume →
         (volume' : Volume) × IsAsBeforeButOrphans T [] old new volume volume'
         × (files_in new volume' ≡ without_orphans volume.memory.orphans (files_in old volume)) }
-{
-    making_room_changes_no_file();
-    flushes_change_no_file();
-    write_times_changes_no_file();
-    reap_frees_orphans();
-    marks_change_no_file();
-}
+{}
 
 /// A call that a session makes is done once, on a volume that is as before but for orphans that aren't held. Told is that it leaves an open volume as before
 /// where it is full, or finds no space.
@@ -73,12 +59,7 @@ pub fn calls_are_made_on_files_without_orphans<C: Call>()
         IsOpen T old volume → MakesFreely (C.does call T) T held old new volume volume' (Ok answer) →
         (middle : StoreState) × (between : Volume) × IsAsBeforeButOrphans T held old middle volume between
         × C.does call T middle new between volume' (Ok answer) }
-{
-    making_room_changes_no_file();
-    flushes_change_no_file();
-    write_times_changes_no_file();
-    reap_frees_orphans();
-}
+{}
 
 /// `create` by a session makes an empty file under a number and a name that were free, on a volume that is as before but for orphans, and does nothing else.
 pub fn sessions_create_a_file()
@@ -88,10 +69,6 @@ pub fn sessions_create_a_file()
         IsOpen T new volume' × (middle : StoreState) × (between : Volume) × IsAsBeforeButOrphans T held old middle volume between
         × MakesInode middle new between volume' d name n (new_inode volume.memory.clock attributes (File [])) }
 {
-    making_room_changes_no_file();
-    flushes_change_no_file();
-    write_times_changes_no_file();
-    reap_frees_orphans();
     refused_new_inodes_answer_the_files();
     want_of_space_changes_no_file();
     create_makes_a_file();
@@ -105,10 +82,6 @@ pub fn sessions_make_a_directory()
         IsOpen T new volume' × (middle : StoreState) × (between : Volume) × IsAsBeforeButOrphans T held old middle volume between
         × MakesInode middle new between volume' d name n (new_inode volume.memory.clock attributes (Directory d (λ x. None))) }
 {
-    making_room_changes_no_file();
-    flushes_change_no_file();
-    write_times_changes_no_file();
-    reap_frees_orphans();
     refused_new_inodes_answer_the_files();
     want_of_space_changes_no_file();
     mkdir_makes_a_directory();
@@ -123,10 +96,6 @@ pub fn sessions_make_a_link()
         IsOpen T new volume' × (middle : StoreState) × (between : Volume) × IsAsBeforeButOrphans T held old middle volume between
         × MakesInode middle new between volume' d name n (new_inode volume.memory.clock attributes (SymbolicLink target)) }
 {
-    making_room_changes_no_file();
-    flushes_change_no_file();
-    write_times_changes_no_file();
-    reap_frees_orphans();
     refused_new_inodes_answer_the_files();
     want_of_space_changes_no_file();
     symlink_makes_a_link();
@@ -139,10 +108,6 @@ pub fn sessions_make_a_name()
         IsOpen T new volume' × (middle : StoreState) × (between : Volume) × IsAsBeforeButOrphans T held old middle volume between
         × (linked (files_in middle between) volume.memory.clock n d name ≡ Ok (files_in new volume')) }
 {
-    making_room_changes_no_file();
-    flushes_change_no_file();
-    write_times_changes_no_file();
-    reap_frees_orphans();
     refused_link_answers_the_files();
     want_of_space_changes_no_file();
     link_makes_a_name();
@@ -156,10 +121,6 @@ pub fn sessions_end_a_directory()
         × (n : ℕ) × (number_in (files_in middle between) d name ≡ Ok n) × HasNoNames (files_in middle between) n
         × (removed (files_in middle between) volume.memory.clock d name true ≡ Ok (files_in new volume')) }
 {
-    making_room_changes_no_file();
-    flushes_change_no_file();
-    write_times_changes_no_file();
-    reap_frees_orphans();
     refused_rmdir_answers_the_files();
     want_of_space_changes_no_file();
     rmdir_ends_an_empty_directory();
@@ -174,10 +135,6 @@ pub fn sessions_move_a_name()
         IsOpen T new volume' × (middle : StoreState) × (between : Volume) × IsAsBeforeButOrphans T held old middle volume between
         × IsRenamed middle new between volume' d name to other }
 {
-    making_room_changes_no_file();
-    flushes_change_no_file();
-    write_times_changes_no_file();
-    reap_frees_orphans();
     refused_rename_answers_the_files();
     want_of_space_changes_no_file();
     rename_moves_a_name();

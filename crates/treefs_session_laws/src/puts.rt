@@ -28,14 +28,11 @@ ghost use Rattle.treefs_session.specs.declared.calls.bytes.Target.TheVariants.{B
 ghost use Rattle.treefs_session_laws.specs.Before.{IsAsBeforeButOrphans, IsUnheld};
 ghost use Rattle.treefs_session_laws.specs.Puts.{GetsName};
 
-use crate::law::{flushes_change_no_file, making_room_changes_no_file};
 use treefs_laws::law::{
     begin_changes_no_file, commit_names_an_inode, commit_replaces_a_name,
-    refused_commit_answers_the_files, write_times_changes_no_file,
+    refused_commit_answers_the_files,
 };
-use treefs_laws::orphans::{
-    begun_writes_change_no_file, give_up_changes_no_file, reap_frees_orphans,
-};
+use treefs_laws::orphans::{begun_writes_change_no_file, give_up_changes_no_file};
 use treefs_laws::space::want_of_space_changes_no_file;
 
 /// An inode that a session begins says what was told, where it is a file or a symbolic link, and no number leads to it. Nothing changes but that inodes without
@@ -50,13 +47,7 @@ pub fn sessions_begin_an_inode()
         (fault : Fault) → IsOpen T old volume →
         MakesFreely (λ s s' v v' result. BeginDoes T s s' v kind attributes head result × (v' ≡ v)) T held old new volume volume' (Err fault) →
         IsAsBeforeButOrphans T held old new volume volume' }
-{
-    making_room_changes_no_file();
-    flushes_change_no_file();
-    write_times_changes_no_file();
-    reap_frees_orphans();
-    begin_changes_no_file();
-}
+{}
 
 /// Bytes that a session writes into an inode that has no number change no file, whatever that answers, but that inodes without links that aren't held may be
 /// freed; and it has no number then.
@@ -66,26 +57,14 @@ pub fn sessions_write_begun_inodes()
         WritesAll T held (Begun block at) bytes old new volume volume' result →
         IsOpen T new volume' × IsReaped (IsUnheld held) (files_in old volume) (files_in new volume') × (volume'.memory.clock ≡ volume.memory.clock)
         × IsUnnamed new volume' block }
-{
-    making_room_changes_no_file();
-    flushes_change_no_file();
-    write_times_changes_no_file();
-    reap_frees_orphans();
-    begun_writes_change_no_file();
-}
+{}
 
 /// A session that gives up an inode that has no number changes no file, whatever it answers.
 pub fn sessions_give_up_an_inode()
     ensures { (T : Types) (old new : StoreState) (volume volume' : Volume) (block : ℕ) (result : Result Bool Fault) → IsOpen T old volume →
         IsUnnamed old volume block → GivesUp T block old new volume volume' result →
         IsOpen T new volume' × (files_in new volume' ≡ files_in old volume) × (volume'.memory.clock ≡ volume.memory.clock) }
-{
-    making_room_changes_no_file();
-    flushes_change_no_file();
-    write_times_changes_no_file();
-    reap_frees_orphans();
-    give_up_changes_no_file();
-}
+{}
 
 /// An inode that was begun gets a number and its first name from a session, on a volume that is as before but for orphans, and nothing else changes. Where it
 /// may replace, what had the name loses a link. Where that is refused, for want of space too, all is as before but for orphans; told is that it isn't the
@@ -101,10 +80,6 @@ pub fn sessions_name_an_inode()
         MakesFreely (λ s s' v v' result. CommitDoes T s s' v v' block d name replace result) T held old new volume volume' (Err fault) →
         IsAsBeforeButOrphans T held old new volume volume' }
 {
-    making_room_changes_no_file();
-    flushes_change_no_file();
-    write_times_changes_no_file();
-    reap_frees_orphans();
     refused_commit_answers_the_files();
     want_of_space_changes_no_file();
     commit_names_an_inode();
@@ -122,10 +97,6 @@ pub fn sessions_put_small_files()
         × GetsName files (files_in new volume') volume.memory.clock put.directory put.name.now put.replace n
         (new_inode volume.memory.clock put.attributes (new_content put.kind 0 put.bytes.now)) }
 {
-    making_room_changes_no_file();
-    flushes_change_no_file();
-    write_times_changes_no_file();
-    reap_frees_orphans();
     begin_changes_no_file();
     begun_writes_change_no_file();
     give_up_changes_no_file();
@@ -143,10 +114,6 @@ pub fn refused_puts_change_no_file()
         PutDoes T held put old new volume volume' (Err fault) →
         IsOpen T new volume' × IsReaped (IsUnheld held) (files_in old volume) (files_in new volume') }
 {
-    making_room_changes_no_file();
-    flushes_change_no_file();
-    write_times_changes_no_file();
-    reap_frees_orphans();
     begin_changes_no_file();
     begun_writes_change_no_file();
     give_up_changes_no_file();

@@ -20,7 +20,6 @@ use Rattle.treefs_model.specs.Files.{with_name}
 use Rattle.treefs_model.specs.Reading.{bucket_of, files_of, leaf_block}
 use Rattle.treefs_lookup.specs.Buckets.{bucket_block, bucket_start}
 use Rattle.treefs_edits.specs.Written.{written}
-use Rattle.treefs_values.specs.KnownLayout.{IsLayout}
 use Rattle.treefs_values.specs.Values.{led_to}
 use Rattle.treefs_values.specs.Volumes.{IsVolume}
 use Rattle.treefs_values.specs.Ways.{block_numbered}
@@ -43,7 +42,7 @@ put_deep m bs n at within =
 pub no_entries : (m : List ℕ) (r : Record) → m ≡ [] → Contains (records_of m) r → ⊥
 no_entries m r none has = Contains-none r (subst (λ es. Contains (placed 0 es) r) (no_length [] refl) (subst (λ m. Contains (records_of m) r) none has))
 
-module _ (node inode top : ℕ) (type : ℕ → ℕ) (old : ℕ → List ℕ) (v : IsVolume node inode type old top) (f : IsLayout)
+module _ (node inode top : ℕ) (type : ℕ → ℕ) (old : ℕ → List ℕ) (v : IsVolume node inode type old top)
     (n : ℕ) (number : n ≢ 0) (there : block_numbered old top n ≢ 0) (k : ℕ) (few : k ≤ leaf_count) (r : Record)
     (has : Contains (records_of (bucket_of old (block_numbered old top n) k)) r) (now : ℕ) (behind : Option ℕ) where
   abbrev c : ℕ
@@ -59,7 +58,7 @@ module _ (node inode top : ℕ) (type : ℕ → ℕ) (old : ℕ → List ℕ) (v
   set_so = written (number_act (bucket_block old c k) (bucket_start k + r.offset) now behind) old
 
   same_bucket : put (bucket_of old c k) r.offset (entry_bytes entry) ≡ put (bucket_of old c k) r.offset (to_le_bytes w32 now)
-  same_bucket = made_anew (bucket_of old c k) r now (bucket_bytes node inode top type old v f n number there k few) has
+  same_bucket = made_anew (bucket_of old c k) r now (bucket_bytes node inode top type old v n number there k few) has
 
   -- the block of the bucket
   same_block : put (old (bucket_block old c k)) (bucket_start k + r.offset) (entry_bytes entry)
@@ -101,7 +100,7 @@ module _ (node inode top : ℕ) (type : ℕ → ℕ) (old : ℕ → List ℕ) (v
     ])
 
     pub volume_anew : IsVolume node inode type made_so top
-    volume_anew = subst (λ m. IsVolume node inode type m top) (sym made_as_set) (volume_set node inode top type old v f n number there k few r has now short behind directory)
+    volume_anew = subst (λ m. IsVolume node inode type m top) (sym made_as_set) (volume_set node inode top type old v n number there k few r has now short behind directory)
 
     pub files_anew : files_of made_so top ≡ with_name (files_of old top) n r.entry.name (led_to now)
-    files_anew = ap (λ m. files_of m top) made_as_set ∙ files_set node inode top type old v f n number there k few r has now short behind directory
+    files_anew = ap (λ m. files_of m top) made_as_set ∙ files_set node inode top type old v n number there k few r has now short behind directory

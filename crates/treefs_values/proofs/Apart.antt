@@ -3,6 +3,7 @@ use Rattle.std.proofs.Common.{◌≡◌, ◌≢◌, ℕ, suc, ◌-◌, ◌<◌, 
 use Rattle.std.specs.Prelude.{IsTrue, nat_lt, ◌==◌}
 use Rattle.std.proofs.lemmas.Bool.{cases_eq}
 use Rattle.treefs_format.specs.Paths.{leaf_count, steps}
+use Rattle.treefs_format.proofs.ForCallers.{paths_once}
 use Rattle.treefs_model.specs.Reading.{block_at, inode_block, leaf_block, pointed}
 use Rattle.treefs_model.specs.Trees.{has_pointer}
 use Rattle.treefs_values.specs.Ways.{ArePointersApart, IsTyped, IsWay, block_numbered}
@@ -97,26 +98,25 @@ module _ (node inode top : ℕ) (type : ℕ → ℕ) (content : ℕ → List ℕ
         (numbered_leaf m m_some (starts m 0 (steps i) (steps_way i) leaf_some)).below e.0
   ]
 
-  module _ (paths_once : (i j : ℕ) → i < leaf_count → j < leaf_count → steps i ≡ steps j → i ≡ j) where
-    pub inodes_apart : (n m : ℕ) → block n ≢ 0 → block n ≡ block m → n ≡ m
-    inodes_apart n m some same = elim (cases_eq n 0) [
-      | inl z ↦ elim (cases_eq m 0) [
-        | inl y ↦ z ∙ sym y
-        | inr there ↦ absurd ((numbered_leaf m there (λ x. some (same ∙ x))).below (sym same ∙ ap block z))
-      ]
-      | inr there ↦ elim (cases_eq m 0) [
-        | inl y ↦ absurd ((numbered_leaf n there some).below (same ∙ ap block y))
-        | inr there' ↦
-            let a = numbered_leaf n there some in
-            let b = numbered_leaf m there' (λ x. some (same ∙ x)) in
-            let e = same_way 0 0 0 0 (steps (n - 1)) (steps (m - 1)) (steps_way (n - 1)) (steps_way (m - 1)) (λ z. some (a.leaf ∙ z)) (sym a.leaf ∙ (same ∙ b.leaf)) in
-            let f : n - 1 ≡ m - 1 = paths_once (n - 1) (m - 1) a.few b.few e.1 in
-            omega arith
-      ]
+  pub inodes_apart : (n m : ℕ) → block n ≢ 0 → block n ≡ block m → n ≡ m
+  inodes_apart n m some same = elim (cases_eq n 0) [
+    | inl z ↦ elim (cases_eq m 0) [
+      | inl y ↦ z ∙ sym y
+      | inr there ↦ absurd ((numbered_leaf m there (λ x. some (same ∙ x))).below (sym same ∙ ap block z))
     ]
+    | inr there ↦ elim (cases_eq m 0) [
+      | inl y ↦ absurd ((numbered_leaf n there some).below (same ∙ ap block y))
+      | inr there' ↦
+          let a = numbered_leaf n there some in
+          let b = numbered_leaf m there' (λ x. some (same ∙ x)) in
+          let e = same_way 0 0 0 0 (steps (n - 1)) (steps (m - 1)) (steps_way (n - 1)) (steps_way (m - 1)) (λ z. some (a.leaf ∙ z)) (sym a.leaf ∙ (same ∙ b.leaf)) in
+          let f : n - 1 ≡ m - 1 = paths_once (n - 1) (m - 1) a.few b.few e.1 in
+          omega arith
+    ]
+  ]
 
-    pub leaves_apart : (n m i j : ℕ) → i < leaf_count → j < leaf_count → leaf_block content (block n) i ≢ 0 →
-        leaf_block content (block n) i ≡ leaf_block content (block m) j → (n ≡ m) × (i ≡ j)
-    leaves_apart n m i j few few' some same =
-        let e = same_way n m 0 0 (steps i) (steps j) (steps_way i) (steps_way j) some same in
-        (inodes_apart n m (starts n 0 (steps i) (steps_way i) some) e.0, paths_once i j few few' e.1)
+  pub leaves_apart : (n m i j : ℕ) → i < leaf_count → j < leaf_count → leaf_block content (block n) i ≢ 0 →
+      leaf_block content (block n) i ≡ leaf_block content (block m) j → (n ≡ m) × (i ≡ j)
+  leaves_apart n m i j few few' some same =
+      let e = same_way n m 0 0 (steps i) (steps j) (steps_way i) (steps_way j) some same in
+      (inodes_apart n m (starts n 0 (steps i) (steps_way i) some) e.0, paths_once i j few few' e.1)

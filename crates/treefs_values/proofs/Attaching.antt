@@ -9,11 +9,11 @@ use Rattle.treefs_format.specs.Inodes.{content_of, kind_of}
 use Rattle.treefs_format.specs.Roots.{key_of}
 use Rattle.treefs_format.specs.declared.kind.Kind.TheVariants as kind
 use Rattle.treefs_format.specs.Paths.{leaf_count, steps}
+use Rattle.treefs_format.proofs.ForCallers.{paths_once}
 use Rattle.treefs_model.specs.Reading.{block_at, files_of, inode_of, key_in, leaf_block, pointed}
 use Rattle.treefs_model.specs.Files.{with_inode}
 use Rattle.treefs_model.specs.Trees.{has_pointer}
 use Rattle.treefs_values.specs.Attached.{IsFreeInode, IsPointerSet}
-use Rattle.treefs_values.specs.KnownLayout.{IsLayout}
 use Rattle.treefs_values.specs.Volumes.{IsWholeBlock, IsDirectory, IsVolume}
 use Rattle.treefs_values.specs.Ways.{ArePointersApart, IsFirst, IsTyped, IsWay, block_numbered}
 use Rattle.treefs_values.proofs.Apart.{inodes_apart, not_root, same_way}
@@ -36,7 +36,7 @@ one_height [] l m way way' = absurd way
 one_height (o ∷ []) l m way way' = first_height o l m way way'
 one_height (o ∷ p ∷ os) l m way way' = let e = one_height (p ∷ os) (suc l) (suc m) way.3 way'.3 in omega arith
 
-module _ (node inode top : ℕ) (type : ℕ → ℕ) (old new : ℕ → List ℕ) (v : IsVolume node inode type old top) (f : IsLayout)
+module _ (node inode top : ℕ) (type : ℕ → ℕ) (old new : ℕ → List ℕ) (v : IsVolume node inode type old top)
     (n : ℕ) (number : n ≢ 0) (few : n - 1 < leaf_count) (o : ℕ) (q : List ℕ) (steps_are : steps (n - 1) ≡ o ∷ q) (holder_some : block_at old top q ≢ 0)
     (block : ℕ) (free : IsPointerSet node inode type old new (block_at old top q) o block) where
   abbrev holder : ℕ
@@ -49,7 +49,7 @@ module _ (node inode top : ℕ) (type : ℕ → ℕ) (old new : ℕ → List ℕ
   way_there = subst (λ os. IsWay os 0) steps_are (steps_way (n - 1))
 
   root_number : (m : ℕ) → block_numbered old top m ≡ top → m ≡ 0
-  root_number m is = inodes_apart node inode top type old v.types.0 v.typed v.apart f.paths_once m 0 (λ z. v.root (sym is ∙ z)) is
+  root_number m is = inodes_apart node inode top type old v.types.0 v.typed v.apart m 0 (λ z. v.root (sym is ∙ z)) is
 
   -- the pointer stands at the end of one way from the root alone
   only_there : (m l p : ℕ) (os : List ℕ) → IsWay (p ∷ os) l → at m os ≡ holder → p ≡ o → (m ≡ 0) × (p ∷ os ≡ o ∷ q)
@@ -141,7 +141,7 @@ module _ (node inode top : ℕ) (type : ℕ → ℕ) (old new : ℕ → List ℕ
       by some false e =
           inode_numbered new top m some ∙ (ap (λ t. if t then 0 else leaf_block new top (m - 1)) e
           ∙ (way_stays 0 0 (steps (m - 1)) (steps_way (m - 1)) (λ z same.
-          let s = f.paths_once (m - 1) (n - 1) (counted m e) few (same ∙ sym steps_are) in absurd (ne (omega arith)))
+          let s = paths_once (m - 1) (n - 1) (counted m e) few (same ∙ sym steps_are) in absurd (ne (omega arith)))
           ∙ (sym (ap (λ t. if t then 0 else leaf_block old top (m - 1)) e) ∙ sym (inode_numbered old top m some))))
 
   -- the number's test

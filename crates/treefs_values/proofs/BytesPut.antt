@@ -11,7 +11,6 @@ use Rattle.treefs_lookup.specs.Buckets.{bucket_block, bucket_start}
 use Rattle.treefs_lookup.specs.Bytes.{part_left}
 use Rattle.treefs_edits.specs.Written.{written}
 use Rattle.treefs_values.specs.Bytes.{bucket_at, byte_over, is_within, place_in_bucket}
-use Rattle.treefs_values.specs.KnownLayout.{IsLayout}
 use Rattle.treefs_values.specs.Volumes.{IsVolume}
 use Rattle.treefs_values.specs.Ways.{block_numbered}
 use Rattle.treefs_values.proofs.Alike.{in_leaf}
@@ -163,7 +162,7 @@ elsewhere first count p fits ne = elim (part first count fits) [
 
 -- Bytes are put into a bucket of an inode
 
-module _ (node inode top : ℕ) (type : ℕ → ℕ) (old : ℕ → List ℕ) (v : IsVolume node inode type old top) (f : IsLayout)
+module _ (node inode top : ℕ) (type : ℕ → ℕ) (old : ℕ → List ℕ) (v : IsVolume node inode type old top)
     (n : ℕ) (number : n ≢ 0) (there : block_numbered old top n ≢ 0) (bytes : List ℕ) (range : All (λ b. b < 256) bytes) (some : 0 < length bytes) (first : ℕ)
     (few : bucket_at first ≤ leaf_count) (fits : length bytes ≤ part_left first) (block_there : bucket_block old (block_numbered old top n) (bucket_at first) ≢ 0) (behind : Option ℕ) where
   abbrev c : ℕ
@@ -202,8 +201,8 @@ module _ (node inode top : ℕ) (type : ℕ → ℕ) (old : ℕ → List ℕ) (v
       two : (t : ℕ) → t ≡ 2 → t ≢ 0
       two t is z = absurd (omega (arith, is, z))
 
-  pub put_in : IsPut node inode top type old v f n number there bytes range (place_in_bucket first) behind k
-  put_in = is_put node inode top type old v f n number there bytes range (place_in_bucket first) behind some k few long
+  pub put_in : IsPut node inode top type old v n number there bytes range (place_in_bucket first) behind k
+  put_in = is_put node inode top type old v n number there bytes range (place_in_bucket first) behind some k few long
 
   pub byte_put : (p : ℕ) → bucket_at p ≤ leaf_count → byte_of new c p ≡ byte_over first bytes (byte_of old c) p
   byte_put p few' = elim (cases_eq (bucket_at p) k) [

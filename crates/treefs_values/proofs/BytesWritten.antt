@@ -19,7 +19,6 @@ use Rattle.treefs_model.specs.Reading.{byte_of, bytes_of, content_at, files_of, 
 use Rattle.treefs_lookup.specs.Buckets.{bucket_block}
 use Rattle.treefs_lookup.specs.Bytes.{part_left}
 use Rattle.treefs_values.specs.Bytes.{bucket_at, byte_over, is_within, place_in_bucket, put_within, with_put}
-use Rattle.treefs_values.specs.KnownLayout.{IsLayout}
 use Rattle.treefs_values.specs.Volumes.{IsVolume}
 use Rattle.treefs_values.specs.Ways.{block_numbered}
 use Rattle.treefs_values.proofs.BytesPut.{byte_put, new, put_in, stands}
@@ -85,7 +84,7 @@ few_buckets p lt = elim (stands p) [
 
 -- A file whose bytes are written, with the size that it has
 
-module _ (node inode top : ℕ) (type : ℕ → ℕ) (old : ℕ → List ℕ) (v : IsVolume node inode type old top) (f : IsLayout)
+module _ (node inode top : ℕ) (type : ℕ → ℕ) (old : ℕ → List ℕ) (v : IsVolume node inode type old top)
     (n : ℕ) (number : n ≢ 0) (there : block_numbered old top n ≢ 0) (bytes : List ℕ) (range : All (λ b. b < 256) bytes) (some : 0 < length bytes) (first : ℕ)
     (few : bucket_at first ≤ leaf_count) (fits : length bytes ≤ part_left first) (block_there : bucket_block old (block_numbered old top n) (bucket_at first) ≢ 0) (behind : Option ℕ) where
   abbrev c : ℕ
@@ -98,10 +97,10 @@ module _ (node inode top : ℕ) (type : ℕ → ℕ) (old : ℕ → List ℕ) (v
   was = fields_of (old c)
 
   abbrev next : ℕ → List ℕ
-  next = new node inode top type old v f n number there bytes range some first few fits block_there behind
+  next = new node inode top type old v n number there bytes range some first few fits block_there behind
 
-  p : IsPut node inode top type old v f n number there bytes range (place_in_bucket first) behind (bucket_at first)
-  p = put_in node inode top type old v f n number there bytes range some first few fits block_there behind
+  p : IsPut node inode top type old v n number there bytes range (place_in_bucket first) behind (bucket_at first)
+  p = put_in node inode top type old v n number there bytes range some first few fits block_there behind
 
   abbrev b : ℕ
   b = bucket_block old c (bucket_at first)
@@ -113,7 +112,7 @@ module _ (node inode top : ℕ) (type : ℕ → ℕ) (old : ℕ → List ℕ) (v
         let n_bytes : length (bytes_of old c) ≡ was.size = length-listed (byte_of old c) was.size in
         ap (λ (g : Fields). listed (byte_of next c) g.size) p.fields
         ∙ (same_listed (byte_of next c) (byte_over first bytes (slice_index (bytes_of old c))) was.size
-        (λ i lt. byte_put node inode top type old v f n number there bytes range some first few fits block_there behind i (few_buckets i (omega arith))
+        (λ i lt. byte_put node inode top type old v n number there bytes range some first few fits block_there behind i (few_buckets i (omega arith))
         ∙ ap (λ x. if is_within first (length bytes) i then slice_index bytes (i - first) else x) (sym (get_listed (byte_of old c) was.size i lt)))
         ∙ ap (listed (byte_over first bytes (slice_index (bytes_of old c)))) (sym n_bytes))
 
@@ -124,14 +123,14 @@ module _ (node inode top : ℕ) (type : ℕ → ℕ) (old : ℕ → List ℕ) (v
       content_put kind.SymbolicLink other = (λ j. SymbolicLink (bytes_put j))
 
       pub files_put : files_of next top ≡ changed_at (files_of old top) n (with_put first bytes)
-      files_put = files_changed node inode top type old next v.types.0 v.typed v.apart p.keeps f.paths_once n b number p.some p.part p.changed v.root (with_put first bytes)
-          (own_read node inode top type old next v.types.0 v.typed v.apart p.keeps f.paths_once n b number p.some p.part p.changed v.root
+      files_put = files_changed node inode top type old next v.types.0 v.typed v.apart p.keeps n b number p.some p.part p.changed v.root (with_put first bytes)
+          (own_read node inode top type old next v.types.0 v.typed v.apart p.keeps n b number p.some p.part p.changed v.root
           ∙ (ap (λ (g : Fields). option_map (λ k. inode_with g (content_at next key c g.parent k)) (kind_of g.mode)) p.fields
           ∙ (ap (option_map (λ k. inode_with was (content_at next key c was.parent k))) is_kind
           ∙ (ap Some (ap (inode_with was) (content_put k no_directory))
-          ∙ sym (ap (changed_in (with_put first bytes)) (own_was node inode top type old next v.types.0 v.typed v.apart p.keeps f.paths_once n b number p.some p.part p.changed
+          ∙ sym (ap (changed_in (with_put first bytes)) (own_was node inode top type old next v.types.0 v.typed v.apart p.keeps n b number p.some p.part p.changed
           ∙ ap (option_map (λ k. inode_with was (content_at old key c was.parent k))) is_kind))))))
 
       pub volume_put : IsVolume node inode type next top
-      volume_put = still_volume node inode top type old next v f.paths_once n b number p.some p.part p.changed p.keeps p.is_block
+      volume_put = still_volume node inode top type old next v n b number p.some p.part p.changed p.keeps p.is_block
           (λ directory. absurd (no_directory (same_Some k kind.Directory (sym is_kind ∙ (sym (ap (λ (g : Fields). kind_of g.mode) p.fields) ∙ directory)))))

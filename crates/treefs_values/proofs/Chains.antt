@@ -12,6 +12,7 @@ use Rattle.treefs_format.specs.Buckets.{is_whole}
 use Rattle.treefs_format.specs.Nodes.{node_bytes}
 use Rattle.treefs_format.specs.Records.{entries_of}
 use Rattle.treefs_format.specs.Templates.{IsTree}
+use Rattle.treefs_format.proofs.ForCallers.{node_children, node_long}
 use Rattle.treefs_model.specs.Acts.{Act, Ran, attach_act, one_patch, wait_act}
 use Rattle.treefs_model.specs.Reading.{block_at, files_of, pointed}
 use Rattle.treefs_model.specs.Trees.{has_pointer}
@@ -21,7 +22,6 @@ use Rattle.treefs_edits.specs.Written.{written}
 use Rattle.treefs_edits.specs.declared.start.Start.{Start}
 use Rattle.treefs_values.specs.Attached.{IsPointerSet}
 use Rattle.treefs_values.specs.Kinds.{kinds}
-use Rattle.treefs_values.specs.KnownLayout.{IsLayout}
 use Rattle.treefs_values.specs.Volumes.{IsVolume, IsWholeBlock}
 use Rattle.treefs_values.specs.Ways.{ArePointersApart, IsWay, block_numbered}
 use Rattle.treefs_values.proofs.EmptyBlocks.{empty_files, empty_names, empty_there, empty_volume, table_inodes}
@@ -84,7 +84,7 @@ abbrev pub last_bytes : List ℕ → List New → List ℕ
 last_bytes bytes [] = bytes
 last_bytes bytes (x ∷ xs) = last_bytes x.bytes xs
 
-module _ (T : Types) (fs node inode top : ℕ) (few : fs < 32) (tree : IsTree T node inode) (known : IsLayout) (m : ℕ) (More : ℕ → Type 0)
+module _ (T : Types) (fs node inode top : ℕ) (few : fs < 32) (tree : IsTree T node inode) (m : ℕ) (More : ℕ → Type 0)
     (more_stands : (o : ℕ) → More o → (4 ≤ o) × (o + 4 ≤ 512) × (o % 4 ≡ 0)) where
   abbrev IsHere : StoreState → Type 0
   IsHere s = IsAt T fs node inode top s
@@ -152,7 +152,7 @@ module _ (T : Types) (fs node inode top : ℕ) (few : fs < 32) (tree : IsTree T 
 
     set' : IsPointerSet node inode (kinds old fs) (readable old fs) (readable s1 fs) holder k.offset x.block
     set' = subst (λ c. IsPointerSet node inode (kinds old fs) (readable old fs) c holder k.offset x.block) (sym first.reads)
-        (pointer_set node inode (kinds old fs) (readable old fs) holder k.offset k.ty x.block None v.types.0 some whole has none new.within known.pointers_others)
+        (pointer_set node inode (kinds old fs) (readable old fs) holder k.offset k.ty x.block None v.types.0 some whole has none new.within)
 
     set : IsPointerSet node inode (kinds old fs) (readable old fs) (readable s1 fs) (at old q) k.offset x.block
     set = subst (λ b. IsPointerSet node inode (kinds old fs) (readable old fs) (readable s1 fs) b k.offset x.block) holder_is set'
@@ -188,7 +188,7 @@ module _ (T : Types) (fs node inode top : ℕ) (few : fs < 32) (tree : IsTree T 
 
     waited : readable s2 fs ≡ readable s1 fs
     waited = second.reads ∙ wait_writes (readable s1 fs) x.block k.first holder (sym (ap (λ b. slice_index b 0) said_first))
-        (subst (λ b. 0 < length b) (sym said_first) (let long = known.node_long k.first in omega arith))
+        (subst (λ b. 0 < length b) (sym said_first) (let long = node_long k.first in omega arith))
 
     pub one_said : readable s2 fs x.block ≡ node_bytes k.first
     one_said = ap (λ c. c x.block) waited ∙ said_first
@@ -199,26 +199,26 @@ module _ (T : Types) (fs node inode top : ℕ) (few : fs < 32) (tree : IsTree T 
       root = second.root ∙ first_root;
       volume = subst (λ t. IsVolume node inode t (readable s2 fs) top) (sym (second.types ∙ first.types))
           (subst (λ c. IsVolume node inode (kinds old fs) c top) (sym waited)
-          (empty_volume node inode top (kinds old fs) (readable old fs) (readable s1 fs) v known m l k.offset q way at_some x.block set new.there not_at below leaf bare nothing apart
+          (empty_volume node inode top (kinds old fs) (readable old fs) (readable s1 fs) v m l k.offset q way at_some x.block set new.there not_at below leaf bare nothing apart
           holder_fine));
     }
 
     pub one_files : files_of (readable s2 fs) top ≡ files_of (readable old fs) top
     one_files =
         ap (λ c. files_of c top) waited
-        ∙ empty_files node inode top (kinds old fs) (readable old fs) (readable s1 fs) v known m l k.offset q way at_some x.block set new.there not_at below leaf bare nothing
+        ∙ empty_files node inode top (kinds old fs) (readable old fs) (readable s1 fs) v m l k.offset q way at_some x.block set new.there not_at below leaf bare nothing
 
     pub one_names : (n : ℕ) → n ≢ 0 → block_numbered (readable old fs) top n ≢ 0 → KeepsNames (readable old fs) (readable s2 fs) top n
     one_names n n_some there = subst (λ c. KeepsNames (readable old fs) c top n) (sym waited)
-        (empty_names node inode top (kinds old fs) (readable old fs) (readable s1 fs) v known m l k.offset q way at_some x.block set new.there not_at below leaf bare nothing n n_some there)
+        (empty_names node inode top (kinds old fs) (readable old fs) (readable s1 fs) v m l k.offset q way at_some x.block set new.there not_at below leaf bare nothing n n_some there)
 
     pub one_inodes : m ≡ 0 → KeepsInodes (readable old fs) (readable s2 fs) top
     one_inodes table = subst (λ c. KeepsInodes (readable old fs) c top) (sym waited)
-        (table_inodes node inode top (kinds old fs) (readable old fs) (readable s1 fs) v known m l k.offset q way at_some x.block set new.there not_at below leaf bare nothing table)
+        (table_inodes node inode top (kinds old fs) (readable old fs) (readable s1 fs) v m l k.offset q way at_some x.block set new.there not_at below leaf bare nothing table)
 
     pub one_there : x.block ≡ at s2 (k.offset ∷ q)
     one_there =
-        sym (empty_there node inode top (kinds old fs) (readable old fs) (readable s1 fs) v known m l k.offset q way at_some x.block set new.there not_at below leaf bare nothing)
+        sym (empty_there node inode top (kinds old fs) (readable old fs) (readable s1 fs) v m l k.offset q way at_some x.block set new.there not_at below leaf bare nothing)
         ∙ sym (ap (λ c. block_at c (block_numbered c top m) (k.offset ∷ q)) waited)
 
     pub one_keeps : (y : New) → IsNew node inode (kinds old fs) (readable old fs) top y → IsOther x y → IsNew node inode (kinds s2 fs) (readable s2 fs) top y
@@ -269,7 +269,7 @@ module _ (T : Types) (fs node inode top : ℕ) (few : fs < 32) (tree : IsTree T 
           (new_kept node inode top (kinds old fs) (kinds s2 fs) (readable old fs) (readable s2 fs) (IsOther x) xs news.1 (λ y ne is. keep y is ne) news.2)
           (λ o next. let stands = next_stands (k.offset ∷ q) ks chain.4 o next in
           ap (λ t. if t then 0 else word_at (readable s2 fs x.block) o) (ne_eqb x.block 0 news.0.there)
-          ∙ (ap (λ b. word_at b o) said ∙ bare_node (node_bytes k.first) (known.node_children k.first) o stands.0 stands.1 stands.2))
+          ∙ (ap (λ b. word_at b o) said ∙ bare_node (node_bytes k.first) (node_children k.first) o stands.0 stands.1 stands.2))
           b.3 in
           record {
             middle = later.middle;

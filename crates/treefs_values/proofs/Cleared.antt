@@ -12,8 +12,8 @@ use Rattle.xn_model.proofs.ForCallers.{Contains-cons, Contains-head, Contains-no
 use Rattle.ffs_model.proofs.ForCallers.{bytes_apart, word_apart, word_within}
 use Rattle.treefs_format.specs.Fields.{fields_of}
 use Rattle.treefs_format.specs.Inodes.{content_of}
-use Rattle.treefs_format.specs.Nodes.{pointers_patch}
 use Rattle.treefs_format.specs.Numbers.{word_bytes}
+use Rattle.treefs_format.proofs.ForCallers.{pointers_others}
 use Rattle.treefs_model.specs.Acts.{Act}
 use Rattle.treefs_model.specs.Reading.{pointed}
 use Rattle.treefs_model.specs.Trees.{has_pointer}
@@ -50,10 +50,7 @@ zero_word j n few = ap (λ m. from_le_bytes w32 (take 4 m)) (zeros_from j n) ∙
 all_of : {A : Type 0} (P : A → Type 0) (xs : List A) (x : A) → All P xs → Contains xs x → P x
 all_of P xs x all has = subst P has.2 (all has.0 x has.1)
 
-abbrev pub KeepsFields : Type 0
-KeepsFields = (m blocks : List ℕ) (i : ℕ) → length m ≡ 512 → i + length blocks ≤ 20 → fields_of (patched m (pointers_patch (48 + 4 * i) blocks ∷ [])) ≡ fields_of m
-
-module _ (node inode t : ℕ) (other : node ≢ inode) (kept : KeepsFields) where
+module _ (node inode t : ℕ) (other : node ≢ inode) where
   -- of a block of this type, with these bytes
   pub record AreCleared (m m' : List ℕ) (places : List (ℕ × ℕ)) : Type 0 where
     pub whole : IsWholeBlock m'
@@ -118,7 +115,7 @@ module _ (node inode t : ℕ) (other : node ≢ inode) (kept : KeepsFields) wher
         let aligned : p.0 % 4 ≡ 0 = first.1 in
         let same : 48 + 4 * ((p.0 - 48) / 4) ≡ p.0 = omega arith in
         let n : length (replicate {A = ℕ} p.1 0) ≡ p.1 = length-replicate p.1 0 in
-        (λ j. fields_of (put m (sym same j) (sym (zero_words p.1) j))) ∙ kept m (replicate {A = ℕ} p.1 0) ((p.0 - 48) / 4) whole.0 (omega arith)
+        (λ j. fields_of (put m (sym same j) (sym (zero_words p.1) j))) ∙ (pointers_others m (replicate {A = ℕ} p.1 0) ((p.0 - 48) / 4) whole.0 (omega arith)).0
 
     one_contents : t ≡ inode → content_of now ≡ content_of m
     one_contents is =
@@ -195,7 +192,7 @@ module _ (node inode t : ℕ) (other : node ≢ inode) (kept : KeepsFields) wher
 
 module _ (node inode : ℕ) (type : ℕ → ℕ) (old : ℕ → List ℕ) (holder : ℕ) (places : List (ℕ × ℕ)) (blocks : List ℕ) (behind : Option ℕ) (other : node ≢ inode) (some : holder ≢ 0)
     (whole : IsWholeBlock (old holder)) (over : All (AreOverPointers node inode (type holder)) places) (led : All (IsLedTo old holder places) blocks)
-    (apart : has_number blocks holder ≡ false) (kept : KeepsFields) where
+    (apart : has_number blocks holder ≡ false) where
   abbrev act : Act
   act = clear_act holder places blocks behind
 
@@ -208,8 +205,8 @@ module _ (node inode : ℕ) (type : ℕ → ℕ) (old : ℕ → List ℕ) (holde
   here : new holder ≡ patched (old holder) (map zero_patch places)
   here = ap (λ t. if t then [] else written act old holder) apart ∙ written_here act old holder refl
 
-  c : AreCleared node inode (type holder) other kept (old holder) (patched (old holder) (map zero_patch places)) places
-  c = all_cleared node inode (type holder) other kept places (old holder) whole over
+  c : AreCleared node inode (type holder) other (old holder) (patched (old holder) (map zero_patch places)) places
+  c = all_cleared node inode (type holder) other places (old holder) whole over
 
   word_of : (content : ℕ → List ℕ) (o : ℕ) → pointed content holder o ≡ word_at (content holder) o
   word_of content o = ap (λ t. if t then 0 else word_at (content holder) o) (ne_eqb holder 0 some)

@@ -18,7 +18,6 @@ use Rattle.treefs_model.specs.Files.{File, SymbolicLink}
 use Rattle.treefs_model.specs.Reading.{block_at, byte_of, bytes_of, content_at, files_of, inode_block, inode_of, inode_with, key_in, leaf_block, leaf_byte, pointed}
 use Rattle.treefs_model.specs.Trees.{has_pointer}
 use Rattle.treefs_values.specs.Dropped.{AreDropped, IsCovered, IsHolderWay, IsLost, IsPast, LeadsOn}
-use Rattle.treefs_values.specs.KnownLayout.{IsLayout}
 use Rattle.treefs_values.specs.Volumes.{IsDirectory, IsVolume, IsWholeBlock}
 use Rattle.treefs_values.specs.Ways.{ArePointersApart, IsTyped, IsWay, block_numbered}
 use Rattle.treefs_values.proofs.Alike.{bucket_same, inode_alike}
@@ -32,7 +31,7 @@ use Rattle.treefs_values.proofs.Pending.{way_pointer}
 use Rattle.treefs_values.proofs.Standing.{IsKeptInode}
 use Rattle.treefs_values.proofs.Ways.{steps_way}
 
-module _ (node inode top : ℕ) (type type' : ℕ → ℕ) (old new : ℕ → List ℕ) (v : IsVolume node inode type old top) (f : IsLayout) (n : ℕ) (number : n ≢ 0) (q : List ℕ) (way_to : IsHolderWay q)
+module _ (node inode top : ℕ) (type type' : ℕ → ℕ) (old new : ℕ → List ℕ) (v : IsVolume node inode type old top) (n : ℕ) (number : n ≢ 0) (q : List ℕ) (way_to : IsHolderWay q)
     (holder_some : block_at old (block_numbered old top n) q ≢ 0) (places : List (ℕ × ℕ))
     (gone : AreDropped node inode type type' old new (block_at old (block_numbered old top n) q) places) where
   abbrev block : ℕ → ℕ
@@ -69,7 +68,7 @@ module _ (node inode top : ℕ) (type type' : ℕ → ℕ) (old new : ℕ → Li
   only_there m k p os way is = by os q way way_to holder_some is
     where
       by : (os q : List ℕ) → IsWay (p ∷ os) k → IsHolderWay q → at n q ≢ 0 → at m os ≡ at n q → (m ≡ n) × (os ≡ q)
-      by [] [] way to there is = (inodes_apart node inode top type old v.types.0 v.typed v.apart f.paths_once m n (λ z. there (sym is ∙ z)) is, refl)
+      by [] [] way to there is = (inodes_apart node inode top type old v.types.0 v.typed v.apart m n (λ z. there (sym is ∙ z)) is, refl)
       by [] (r ∷ rs) way to there is =
           let w = holder_node r rs to in
           absurd (v.types.0 (sym (v.typed.nodes n w.0 (r ∷ rs) w.1 there) ∙ (ap type (sym is) ∙ v.typed.inodes m (λ z. there (sym is ∙ z)))))
@@ -79,7 +78,7 @@ module _ (node inode top : ℕ) (type type' : ℕ → ℕ) (old new : ℕ → Li
           let w = holder_node r rs to in
           let m_there : at m (s ∷ ss) ≢ 0 = λ z. there (sym is ∙ z) in
           let e = same_way node inode top type old v.types.0 v.typed v.apart m n (suc k) (suc w.0) (s ∷ ss) (r ∷ rs) way.3 w.1 m_there is in (
-            inodes_apart node inode top type old v.types.0 v.typed v.apart f.paths_once m n
+            inodes_apart node inode top type old v.types.0 v.typed v.apart m n
                 (starts node inode top type old v.types.0 v.typed v.apart m (suc k) (s ∷ ss) way.3 m_there) e.0,
             e.1,
           )
@@ -178,7 +177,7 @@ module _ (node inode top : ℕ) (type type' : ℕ → ℕ) (old new : ℕ → Li
   not_own m ne there is = by q way_to holder_some is
     where
       by : (q : List ℕ) → IsHolderWay q → at n q ≢ 0 → block m ≡ at n q → ⊥
-      by [] to some is = ne (inodes_apart node inode top type old v.types.0 v.typed v.apart f.paths_once m n there is)
+      by [] to some is = ne (inodes_apart node inode top type old v.types.0 v.typed v.apart m n there is)
       by (r ∷ rs) to some is = let w = holder_node r rs to in v.types.0 (sym (v.typed.nodes n w.0 (r ∷ rs) w.1 some) ∙ (ap type (sym is) ∙ v.typed.inodes m there))
 
   no_leaf : (m i : ℕ) → m ≢ 0 → leaf_block old (block m) i ≢ 0 → leaf_block old (block m) i ≢ holder

@@ -1,9 +1,9 @@
 -- What an edit of a part of one inode leaves: the root block, and all other inodes.
 use mathlib.Core.Path.{fun_ext}
-use Rattle.std.proofs.Common.{◌≡◌, ◌≢◌, ℕ, ◌<◌, Bool, true, false, List, None, refl, sym, ◌∙◌, ap, inl, inr, if◌then◌else◌}
+use Rattle.std.proofs.Common.{◌≡◌, ◌≢◌, ℕ, Bool, true, false, List, None, refl, sym, ◌∙◌, ap, inl, inr, if◌then◌else◌}
 use Rattle.std.specs.Prelude.{◌==◌}
 use Rattle.std.proofs.lemmas.Bool.{cases_eq, eq-eqb, eqb-true, ne_eqb, true≢false}
-use Rattle.treefs_format.specs.Paths.{leaf_count, steps}
+use Rattle.treefs_format.specs.Paths.{steps}
 use Rattle.treefs_model.specs.Files.{Inode, changed_at, changed_in}
 use Rattle.treefs_model.specs.Reading.{files_of, inode_block, inode_of, key_in, leaf_block}
 use Rattle.treefs_values.specs.Parts.{IsChangedAt, IsPartOf}
@@ -28,7 +28,6 @@ no_file content top n is = ap (λ x. if x == 0 then None else inode_of content (
 
 module _ (node inode top : ℕ) (type : ℕ → ℕ) (old new : ℕ → List ℕ) (other : node ≢ inode) (typed : IsTyped node inode type old top)
     (apart : ArePointersApart node inode type old top) (keeps : SamePointers node inode type old new)
-    (paths_once : (i j : ℕ) → i < leaf_count → j < leaf_count → steps i ≡ steps j → i ≡ j)
     (n b : ℕ) (number : n ≢ 0) (some : b ≢ 0) (part : IsPartOf old top n b) (changed : IsChangedAt b old new) where
   abbrev block : ℕ → ℕ
   block m = block_numbered old top m
@@ -44,7 +43,7 @@ module _ (node inode top : ℕ) (type : ℕ → ℕ) (old new : ℕ → List ℕ
 
   not_block : (m : ℕ) → m ≢ n → block m ≢ 0 → block m ≢ b
   not_block m ne m_there is = elim part [
-    | inl own ↦ ne (inodes_apart node inode top type old other typed apart paths_once m n m_there (is ∙ own))
+    | inl own ↦ ne (inodes_apart node inode top type old other typed apart m n m_there (is ∙ own))
     | inr below ↦ leaf_no_inode node inode top type old other typed apart n m below.0 number (λ z. some (below.1 ∙ z)) (sym below.1 ∙ sym is)
   ]
 
@@ -53,7 +52,7 @@ module _ (node inode top : ℕ) (type : ℕ → ℕ) (old new : ℕ → List ℕ
     | inl own ↦ leaf_no_inode node inode top type old other typed apart m n i m_some leaf_some (is ∙ own)
     | inr below ↦
         let e = same_way node inode top type old other typed apart m n 0 0 (steps i) (steps below.0) (steps_way i) (steps_way below.0) leaf_some (is ∙ below.1) in
-        ne (inodes_apart node inode top type old other typed apart paths_once m n
+        ne (inodes_apart node inode top type old other typed apart m n
         (starts node inode top type old other typed apart m 0 (steps i) (steps_way i) leaf_some) e.0)
   ]
 

@@ -19,8 +19,7 @@ use Rattle.treefs_format.specs.declared.kind.Kind.TheVariants as kind
 use Rattle.treefs_model.specs.Files.{Directory, File, SymbolicLink}
 use Rattle.treefs_model.specs.Reading.{block_at, bucket_of, byte_of, bytes_of, content_at, files_of, inode_block, inode_of, inode_with, key_in, leaf_block, leaf_byte, number_among, number_of, pointed}
 use Rattle.treefs_model.specs.Trees.{has_name, has_pointer, names_once}
-use Rattle.treefs_values.specs.Attached.{IsPointerSet}
-use Rattle.treefs_values.specs.KnownLayout.{IsLayout}
+use Rattle.treefs_values.specs.Attached.{IsEmptyBlock, IsPointerSet}
 use Rattle.treefs_values.specs.Volumes.{IsDirectory, IsVolume, IsWholeBlock}
 use Rattle.treefs_values.specs.Ways.{ArePointersApart, IsTyped, IsWay, block_numbered}
 use Rattle.treefs_values.proofs.Alike.{in_leaf}
@@ -29,6 +28,7 @@ use Rattle.treefs_values.proofs.Attaching.{one_height}
 use Rattle.treefs_values.proofs.Elsewhere.{file_read, inode_numbered, no_file}
 use Rattle.treefs_values.proofs.Standing.{KeepsInodes, KeepsNames}
 use Rattle.treefs_values.proofs.Ways.{inode_pointer, node_pointer, steps_way}
+use Rattle.treefs_values.proofs.Zeros.{zeros_are_nothing}
 
 -- A bucket of another block, or one that comes to be there, may have other bytes, but no other records
 
@@ -37,7 +37,7 @@ module _ (old new : ℕ → List ℕ) (c : ℕ) (name : List ℕ) (same : (k : �
   among_alike [] = refl
   among_alike (k ∷ buckets) = rw (same k) (rw (among_alike buckets) refl)
 
-module _ (node inode top : ℕ) (type : ℕ → ℕ) (old new : ℕ → List ℕ) (v : IsVolume node inode type old top) (f : IsLayout) (n l o : ℕ) (q : List ℕ) (way_there : IsWay (o ∷ q) l)
+module _ (node inode top : ℕ) (type : ℕ → ℕ) (old new : ℕ → List ℕ) (v : IsVolume node inode type old top) (n l o : ℕ) (q : List ℕ) (way_there : IsWay (o ∷ q) l)
     (holder_some : block_at old (block_numbered old top n) q ≢ 0) (b : ℕ) (set : IsPointerSet node inode type old new (block_at old (block_numbered old top n) q) o b)
     (some : b ≢ 0) (not_holder : b ≢ block_at old (block_numbered old top n) q) (is_node : (k : ℕ) → l ≡ suc k → type b ≡ node)
     (is_leaf : l ≡ 0 → (n ≢ 0) × (type b ≡ 2)) (bare : (p : ℕ) → IsTrue (has_pointer node inode (type b) p) → word_at (old b) p ≡ 0) where
@@ -59,7 +59,7 @@ module _ (node inode top : ℕ) (type : ℕ → ℕ) (old new : ℕ → List ℕ
     where
       by : (os q : List ℕ) → IsWay (p ∷ os) k → IsWay (o ∷ q) l → at m os ≡ at n q → at n q ≢ 0 → (m ≡ n) × (os ≡ q) × (k ≡ l)
       by [] [] way way' is' there = (
-        inodes_apart node inode top type old v.types.0 v.typed v.apart f.paths_once m n (λ z. there (sym is' ∙ z)) is',
+        inodes_apart node inode top type old v.types.0 v.typed v.apart m n (λ z. there (sym is' ∙ z)) is',
         refl,
         one_height (o ∷ []) k l (subst (λ x. IsWay (x ∷ []) k) same way) way',
       )
@@ -69,7 +69,7 @@ module _ (node inode top : ℕ) (type : ℕ → ℕ) (old new : ℕ → List ℕ
           absurd (v.types.0 (sym (v.typed.nodes m k (s ∷ ss) way.3 (λ z. there (sym is' ∙ z))) ∙ (ap type is' ∙ v.typed.inodes n there)))
       by (s ∷ ss) (r ∷ rs) way way' is' there =
           let e = same_way node inode top type old v.types.0 v.typed v.apart m n (suc k) (suc l) (s ∷ ss) (r ∷ rs) way.3 way'.3 (λ z. there (sym is' ∙ z)) is' in (
-            inodes_apart node inode top type old v.types.0 v.typed v.apart f.paths_once m n (starts_there m k s ss way (λ z. there (sym is' ∙ z))) e.0,
+            inodes_apart node inode top type old v.types.0 v.typed v.apart m n (starts_there m k s ss way (λ z. there (sym is' ∙ z))) e.0,
             e.1,
             lower (one_height (r ∷ rs) (suc k) (suc l) (subst (λ os. IsWay os (suc k)) e.1 way.3) way'.3),
           )
@@ -292,7 +292,7 @@ module _ (node inode top : ℕ) (type : ℕ → ℕ) (old new : ℕ → List ℕ
       no_inode m m_some there is = by q way_there holder_some is
         where
           by : (q : List ℕ) → IsWay (o ∷ q) l → at n q ≢ 0 → block m ≡ at n q → ⊥
-          by [] way some' is' = m_some (inodes_apart node inode top type old v.types.0 v.typed v.apart f.paths_once m n there is' ∙ of_table)
+          by [] way some' is' = m_some (inodes_apart node inode top type old v.types.0 v.typed v.apart m n there is' ∙ of_table)
           by (r ∷ rs) way some' is' = v.types.0 (sym (v.typed.nodes n l (r ∷ rs) way.3 some') ∙ (ap type (sym is') ∙ v.typed.inodes m there))
 
       all_ways : (m k : ℕ) (os : List ℕ) → m ≢ 0 → IsWay os k → now m os ≡ at m os
@@ -363,3 +363,16 @@ module _ (node inode top : ℕ) (type : ℕ → ℕ) (old new : ℕ → List ℕ
             subst (λ c. IsDirectory new (key_in new top) c) (sym (block_same m)) (subst (λ key. IsDirectory new key (block m)) (sym key_same)
             (directory_so m m_some (λ z. there (block_same m ∙ z)) (sym (ap (λ c. kind_of (fields_of (new c)).mode) (block_same m)) ∙ is)));
       }
+
+-- so it is with a node without pointers, or a leaf of zeros of an inode
+pub empty_attached : (node inode top : ℕ) (type : ℕ → ℕ) (content new : ℕ → List ℕ) → IsVolume node inode type content top → (n l offset block : ℕ) (above : List ℕ) →
+    IsWay (offset ∷ above) l → let holder = block_at content (block_numbered content top n) above in holder ≢ 0 →
+    IsPointerSet node inode type content new holder offset block → IsEmptyBlock node inode type content n l block → block ≢ holder →
+    ArePointersApart node inode type new top → IsWholeBlock (new holder) →
+    IsVolume node inode type new top × (files_of new top ≡ files_of content top)
+empty_attached node inode top type old new v n l o b q way there set empty apart_of pointers whole =
+    let leaf : l ≡ 0 → (n ≢ 0) × (type b ≡ 2) = λ h. (empty.leaf_of h, empty.leaf_type h) in
+    let nothing = λ (h : l ≡ 0). zeros_are_nothing (old b) (empty.leaf_bytes h) in (
+      empty_volume node inode top type old new v n l o q way there b set empty.there apart_of empty.node_above leaf empty.bare nothing pointers whole,
+      empty_files node inode top type old new v n l o q way there b set empty.there apart_of empty.node_above leaf empty.bare nothing,
+    )

@@ -21,10 +21,9 @@ use Rattle.treefs_values.proofs.Apart.{leaf_no_inode}
 use Rattle.treefs_values.proofs.Elsewhere.{files_changed, own_read, own_was}
 use Rattle.treefs_values.proofs.Keeping.{keeps_inode}
 use Rattle.treefs_values.proofs.Kept.{same_directory, still_volume}
-use Rattle.treefs_values.specs.KnownLayout.{IsLayout}
 use Rattle.treefs_values.proofs.Ways.{leaf_same}
 
-module _ (node inode top : ℕ) (type : ℕ → ℕ) (old new : ℕ → List ℕ) (v : IsVolume node inode type old top) (f : IsLayout)
+module _ (node inode top : ℕ) (type : ℕ → ℕ) (old new : ℕ → List ℕ) (v : IsVolume node inode type old top)
     (n : ℕ) (number : n ≢ 0) (there : block_numbered old top n ≢ 0) (changed : IsChangedAt (block_numbered old top n) old new)
     (pointers : pointers_of (new (block_numbered old top n)) ≡ pointers_of (old (block_numbered old top n)))
     (contents : content_of (new (block_numbered old top n)) ≡ content_of (old (block_numbered old top n))) (is_block : IsWholeBlock (new (block_numbered old top n))) where
@@ -56,7 +55,7 @@ module _ (node inode top : ℕ) (type : ℕ → ℕ) (old new : ℕ → List ℕ
   byte_alike p = byte_same old new c leaves bytes p (sym (get_or-drop 128 (new c) p 0) ∙ (ap (λ m. slice_index m p) contents ∙ get_or-drop 128 (old c) p 0))
 
   pub volume_fielded : kind_of now.mode ≡ kind_of was.mode → IsVolume node inode type new top
-  volume_fielded same_kind = still_volume node inode top type old new v f.paths_once n c number there (inl refl) changed keeps is_block
+  volume_fielded same_kind = still_volume node inode top type old new v n c number there (inl refl) changed keeps is_block
       (λ directory. same_directory old new key c (λ k few. bucket_same old new c leaves bytes k contents) (v.directories n number there (sym same_kind ∙ directory)))
 
   module _ (size : now.size ≡ was.size) where
@@ -83,11 +82,11 @@ module _ (node inode top : ℕ) (type : ℕ → ℕ) (old new : ℕ → List ℕ
           (ap (inode_with now) (content_alike now.parent k ∙ content_moved was.parent now.parent k) ∙ makes (content_at old key c was.parent k) (sym (content_moved was.parent was.parent k)))
 
       pub files_fielded : files_of new top ≡ changed_at (files_of old top) n change
-      files_fielded = files_changed node inode top type old new v.types.0 v.typed v.apart keeps f.paths_once n c number there (inl refl) changed v.root change
-          (own_read node inode top type old new v.types.0 v.typed v.apart keeps f.paths_once n c number there (inl refl) changed v.root
+      files_fielded = files_changed node inode top type old new v.types.0 v.typed v.apart keeps n c number there (inl refl) changed v.root change
+          (own_read node inode top type old new v.types.0 v.typed v.apart keeps n c number there (inl refl) changed v.root
           ∙ (ap (option_map (λ k. inode_with now (content_at new key c now.parent k))) same_kind
           ∙ (own_value (kind_of was.mode)
-          ∙ sym (ap (changed_in change) (own_was node inode top type old new v.types.0 v.typed v.apart keeps f.paths_once n c number there (inl refl) changed)))))
+          ∙ sym (ap (changed_in change) (own_was node inode top type old new v.types.0 v.typed v.apart keeps n c number there (inl refl) changed)))))
 
   -- Another size: of a file other bytes come into sight
 
@@ -102,9 +101,9 @@ module _ (node inode top : ℕ) (type : ℕ → ℕ) (old new : ℕ → List ℕ
     content_seen kind.SymbolicLink other = (λ j. SymbolicLink (map (fun_ext byte_alike j) (range_with_len 0 now.size)))
 
     pub files_resized : files_of new top ≡ changed_at (files_of old top) n change
-    files_resized = files_changed node inode top type old new v.types.0 v.typed v.apart keeps f.paths_once n c number there (inl refl) changed v.root change
-        (own_read node inode top type old new v.types.0 v.typed v.apart keeps f.paths_once n c number there (inl refl) changed v.root
+    files_resized = files_changed node inode top type old new v.types.0 v.typed v.apart keeps n c number there (inl refl) changed v.root change
+        (own_read node inode top type old new v.types.0 v.typed v.apart keeps n c number there (inl refl) changed v.root
         ∙ (ap (option_map (λ k. inode_with now (content_at new key c now.parent k))) (same_kind ∙ is_kind)
         ∙ (ap Some (ap (inode_with now) (content_seen k no_directory) ∙ makes (content_at old key c was.parent k))
-        ∙ sym (ap (changed_in change) (own_was node inode top type old new v.types.0 v.typed v.apart keeps f.paths_once n c number there (inl refl) changed
+        ∙ sym (ap (changed_in change) (own_was node inode top type old new v.types.0 v.typed v.apart keeps n c number there (inl refl) changed
         ∙ ap (option_map (λ k. inode_with was (content_at old key c was.parent k))) is_kind)))))

@@ -14,7 +14,6 @@ use Rattle.treefs_model.specs.Reading.{files_of, inode_with, key_in}
 use Rattle.treefs_lookup.specs.Readable.{readable}
 use Rattle.treefs_edits.specs.Written.{written}
 use Rattle.treefs_values.specs.Kinds.{kinds}
-use Rattle.treefs_values.specs.KnownLayout.{IsLayout}
 use Rattle.treefs_values.specs.Values.{AreChanges}
 use Rattle.treefs_values.specs.Volumes.{IsVolume}
 use Rattle.treefs_values.specs.Ways.{block_numbered}
@@ -25,7 +24,7 @@ use Rattle.treefs_values.proofs.Standing.{IsKeptInode}
 use Rattle.treefs_values.proofs.Walks.{IsAt, IsEdit}
 use Rattle.treefs_values.proofs.Ways.{numbered_same}
 
-module _ (T : Types) (fs node inode top : ℕ) (known : IsLayout) (old new : StoreState) (here : IsAt T fs node inode top old) (n : ℕ) (number : n ≢ 0)
+module _ (T : Types) (fs node inode top : ℕ) (old new : StoreState) (here : IsAt T fs node inode top old) (n : ℕ) (number : n ≢ 0)
     (there : block_numbered (readable old fs) top n ≢ 0) (changes : List (List Change)) (fine : All AreChanges changes) (behind : Option ℕ)
     (edit : IsEdit T fs (changes_act (block_numbered (readable old fs) top n) changes behind) old new) where
   abbrev content : ℕ → List ℕ
@@ -40,19 +39,19 @@ module _ (T : Types) (fs node inode top : ℕ) (known : IsLayout) (old new : Sto
       (subst (λ m. IsNew node inode (kinds old fs) m top x) (sym edit.reads)
       (new_written node inode top (kinds old fs) content (written (changes_act (block_numbered content top n) changes behind) content) x is (block_numbered content top n)
       (λ same. inode_other node inode top (kinds old fs) content v x is n there (sym same)) (λ c ne. written_other (changes_act (block_numbered content top n) changes behind) content c ne)
-      (changes_keep node inode top (kinds old fs) content v known n number there changes fine behind)))
+      (changes_keep node inode top (kinds old fs) content v n number there changes fine behind)))
 
   pub fields_inode : (m : ℕ) → m ≢ n → m ≢ 0 → block_numbered (readable old fs) top m ≢ 0 → IsKeptInode (readable old fs) (readable new fs) top m
   fields_inode m ne some m_there = subst (λ c. IsKeptInode content c top m) (sym edit.reads)
-      (changes_inode node inode top (kinds old fs) content v known n number there changes fine behind m ne some m_there)
+      (changes_inode node inode top (kinds old fs) content v n number there changes fine behind m ne some m_there)
 
   pub fields_numbered : (m : ℕ) → block_numbered (readable new fs) top m ≡ block_numbered (readable old fs) top m
   fields_numbered m = ap (λ c. block_numbered c top m) edit.reads
       ∙ numbered_same node inode top (kinds old fs) content (written (changes_act (block_numbered content top n) changes behind) content) v.typed
-      (changes_keep node inode top (kinds old fs) content v known n number there changes fine behind) m
+      (changes_keep node inode top (kinds old fs) content v n number there changes fine behind) m
 
   pub fields_key : key_in (readable new fs) top ≡ key_in (readable old fs) top
-  fields_key = ap (λ c. key_in c top) edit.reads ∙ changes_key node inode top (kinds old fs) content v known n number there changes fine behind
+  fields_key = ap (λ c. key_in c top) edit.reads ∙ changes_key node inode top (kinds old fs) content v n number there changes fine behind
 
   abbrev was : Fields
   was = fields_of (readable old fs (block_numbered (readable old fs) top n))
@@ -67,9 +66,9 @@ module _ (T : Types) (fs node inode top : ℕ) (known : IsLayout) (old new : Sto
       store = edit.store;
       root = edit.root ∙ here.root;
       volume = subst (λ t. IsVolume node inode t (readable new fs) top) (sym edit.types) (subst (λ m. IsVolume node inode (kinds old fs) m top) (sym edit.reads)
-          (fields_changed node inode top (kinds old fs) content v known n number there changes fine behind size same_kind change makes).0);
+          (fields_changed node inode top (kinds old fs) content v n number there changes fine behind size same_kind change makes).0);
     }
 
     pub fields_files : files_of (readable new fs) top ≡ changed_at (files_of (readable old fs) top) n change
     fields_files = ap (λ m. files_of m top) edit.reads
-        ∙ (fields_changed node inode top (kinds old fs) content v known n number there changes fine behind size same_kind change makes).1
+        ∙ (fields_changed node inode top (kinds old fs) content v n number there changes fine behind size same_kind change makes).1

@@ -16,8 +16,9 @@ pub use Rattle.treefs_values.proofs.LookUps.{inodes_found, numbers_found, number
 pub use Rattle.treefs_values.proofs.NamesEnd.{links_make, name_ended, name_led, same_size}
 pub use Rattle.treefs_values.proofs.Readings.{acts_read, kinds_are, may_read, readable_is}
 pub use Rattle.treefs_values.proofs.ManyChanges.{changes_keep, fields_changed, file_resized}
-pub use Rattle.treefs_values.proofs.NewInodes.{bare_inode, bare_node, inode_small, node_small}
-pub use Rattle.treefs_values.proofs.PointerSet.{inode_offset, low_offset}
+pub use Rattle.treefs_values.proofs.NewInodes.{bare_inode, bare_node, inode_small, new_free, node_small}
+pub use Rattle.treefs_values.proofs.PointerSet.{inode_offset, low_offset, pointer_attached}
+pub use Rattle.treefs_values.proofs.EmptyBlocks.{empty_attached}
 -- edits one after another
 pub use Rattle.treefs_values.proofs.Standing.{IsKeptInode, KeepsInodes, KeepsNames, inodes_stay, inodes_then}
 pub use Rattle.treefs_values.proofs.Pending.{AreNew, IsNew, IsOther, New, all_front, new_kept, new_parts}

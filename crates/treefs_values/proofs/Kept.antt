@@ -1,11 +1,11 @@
 -- A volume is one still, where a part of one inode changes, and no pointer.
-use Rattle.std.proofs.Common.{◌≡◌, ◌≢◌, ℕ, ◌<◌, ◌≤◌, List, Some, sym, ◌∙◌, ap, inl, inr, subst}
+use Rattle.std.proofs.Common.{◌≡◌, ◌≢◌, ℕ, ◌≤◌, List, Some, sym, ◌∙◌, ap, inl, inr, subst}
 use Rattle.std.specs.Prelude.{IsTrue}
 use Rattle.std.proofs.lemmas.Bool.{cases_eq}
 use Rattle.treefs_format.specs.Buckets.{is_whole}
 use Rattle.treefs_format.specs.Fields.{fields_of}
 use Rattle.treefs_format.specs.Inodes.{content_of, kind_of}
-use Rattle.treefs_format.specs.Paths.{leaf_count, steps}
+use Rattle.treefs_format.specs.Paths.{leaf_count}
 use Rattle.treefs_format.specs.Records.{entries_of}
 use Rattle.treefs_format.specs.declared.kind.Kind.TheVariants as kind
 use Rattle.treefs_model.specs.Reading.{bucket_of, key_in}
@@ -40,7 +40,6 @@ same_directory old new key c same d = record {
 }
 
 module _ (node inode top : ℕ) (type : ℕ → ℕ) (old new : ℕ → List ℕ) (v : IsVolume node inode type old top)
-    (paths_once : (i j : ℕ) → i < leaf_count → j < leaf_count → steps i ≡ steps j → i ≡ j)
     (n b : ℕ) (number : n ≢ 0) (some : b ≢ 0) (part : IsPartOf old top n b) (changed : IsChangedAt b old new) (keeps : SamePointers node inode type old new)
     (is_block : IsWholeBlock (new b)) where
   abbrev block : ℕ → ℕ
@@ -61,7 +60,7 @@ module _ (node inode top : ℕ) (type : ℕ → ℕ) (old new : ℕ → List ℕ
     directories = λ m m_some m_there directory.
         let same_m = numbered_same node inode top type old new v.typed keeps m in
         subst (λ x. IsDirectory new (key_in new top) x) (sym same_m)
-        (subst (λ key. IsDirectory new key (block m)) (sym (key_stays node inode top type old new v.types.0 v.typed v.apart keeps paths_once n b number some part changed v.root))
+        (subst (λ key. IsDirectory new key (block m)) (sym (key_stays node inode top type old new v.types.0 v.typed v.apart keeps n b number some part changed v.root))
         (here m m_some (λ z. m_there (same_m ∙ z)) (sym (ap (λ x. kind_of (fields_of (new x)).mode) same_m) ∙ directory)));
   }
     where
@@ -70,7 +69,7 @@ module _ (node inode top : ℕ) (type : ℕ → ℕ) (old new : ℕ → List ℕ
         | inl same ↦
             subst (λ x. IsDirectory new (key_in old top) (block x)) (sym same) (own (sym (ap (λ x. kind_of (fields_of (new (block x))).mode) same) ∙ directory))
         | inr ne ↦
-            let a = other_alike node inode top type old new v.types.0 v.typed v.apart keeps paths_once n b number some part changed m ne m_some m_there in
+            let a = other_alike node inode top type old new v.types.0 v.typed v.apart keeps n b number some part changed m ne m_some m_there in
             same_directory old new (key_in old top) (block m) (λ k few. bucket_same old new (block m) a.leaves a.bytes k (ap content_of a.own))
             (v.directories m m_some m_there (sym (ap (λ x. kind_of (fields_of x).mode) a.own) ∙ directory))
       ]

@@ -21,6 +21,7 @@ use Rattle.treefs_format.specs.Records.{Entry, Record, end_of, entries_of, entry
 use Rattle.treefs_format.specs.declared.kind.Kind.TheVariants as kind
 use Rattle.treefs_format.proofs.Made.{Split, bucket_of as format_bucket, live_within, no_length, split_at}
 use Rattle.treefs_format.proofs.Parsed.{Fits, joined_read, length-joined}
+use Rattle.treefs_format.proofs.ForCallers.{renumbered_read}
 use Rattle.treefs_model.specs.Acts.{Act, number_act, one_patch, patch_act, record_act}
 use Rattle.treefs_model.specs.Files.{with_name}
 use Rattle.treefs_model.specs.Reading.{bucket_of, files_of, key_in, leaf_block}
@@ -29,7 +30,6 @@ use Rattle.treefs_lookup.specs.Names.{entry_found}
 use Rattle.treefs_lookup.specs.declared.names.Slot.{Slot}
 use Rattle.treefs_edits.specs.Kinds.{rewritten_act}
 use Rattle.treefs_edits.specs.Written.{written}
-use Rattle.treefs_values.specs.KnownLayout.{IsLayout}
 use Rattle.treefs_values.specs.Names.{bucket_entries}
 use Rattle.treefs_values.specs.Values.{led_to}
 use Rattle.treefs_values.specs.Volumes.{IsVolume}
@@ -62,16 +62,16 @@ pub record Stands (content : ℕ → List ℕ) (top d : ℕ) (name : List ℕ) (
   pub offset_is : offset ≡ bucket_start bucket + record_of.offset
 
 -- one that is found, which is live
-pub stands_found : (content : ℕ → List ℕ) (top d : ℕ) (name : List ℕ) (slot : Slot) → IsLayout → entry_found content top d name ≡ Ok slot →
+pub stands_found : (content : ℕ → List ℕ) (top d : ℕ) (name : List ℕ) (slot : Slot) → entry_found content top d name ≡ Ok slot →
     (s : Stands content top d name slot.block slot.offset) × (is_live s.record_of.entry ≡ true)
-stands_found content top d name slot known is =
+stands_found content top d name slot is =
     let e = entry_is content top d name slot is in (
       record {
         number = e.number;
         there = e.there;
         directory = e.directory;
         bucket = e.bucket;
-        few = candidates_few known.high (name_hash (key_in content top) name) e.bucket e.candidate;
+        few = candidates_few (name_hash (key_in content top) name) e.bucket e.candidate;
         record_of = e.record_of;
         of = e.slot_is.of.there;
         named = e.slot_is.of.named;
@@ -128,11 +128,11 @@ module _ (old new : ℕ → List ℕ) (top d : ℕ) (name : List ℕ) (block off
 
 -- Bytes are put into a bucket
 
-module _ (node inode top : ℕ) (type : ℕ → ℕ) (old : ℕ → List ℕ) (v : IsVolume node inode type old top) (f : IsLayout)
+module _ (node inode top : ℕ) (type : ℕ → ℕ) (old : ℕ → List ℕ) (v : IsVolume node inode type old top)
     (n : ℕ) (number : n ≢ 0) (there : block_numbered old top n ≢ 0) (bytes : List ℕ) (range : All (λ b. b < 256) bytes) (at : ℕ) (behind : Option ℕ) (k : ℕ)
-    (p : IsPut node inode top type old v f n number there bytes range at behind k) where
+    (p : IsPut node inode top type old v n number there bytes range at behind k) where
   abbrev new : ℕ → List ℕ
-  new = after node inode top type old v f n number there bytes range at behind k
+  new = after node inode top type old v n number there bytes range at behind k
 
   pub put_numbered : (m : ℕ) → block_numbered new top m ≡ block_numbered old top m
   put_numbered m = numbered_same node inode top type old new v.typed p.keeps m
@@ -150,7 +150,7 @@ module _ (node inode top : ℕ) (type : ℕ → ℕ) (old : ℕ → List ℕ) (v
   put_stands d name block offset s ne = elim (cases_eq d n) [
     | inl same ↦ subst (λ x. Stands new top x name block offset) (sym same) (own_stands name block offset (subst (λ x. Stands old top x name block offset) same s) ne)
     | inr other ↦
-        let alike = other_alike node inode top type old new v.types.0 v.typed v.apart p.keeps f.paths_once n (bucket_block old (block_numbered old top n) k) number p.some p.part
+        let alike = other_alike node inode top type old new v.types.0 v.typed v.apart p.keeps n (bucket_block old (block_numbered old top n) k) number p.some p.part
         p.changed d other s.number s.there in
         let c : ℕ = block_numbered old top d in
         stands_kept old new top d name block offset s (put_numbered d) (ap fields_of alike.own)
@@ -181,7 +181,7 @@ total_set : (before behind : List Entry) (e x : Entry) → e.name ≡ x.name →
 total_set before behind e x same =
     total_append before (e ∷ behind) ∙ (ap (λ m. total_length before + (5 + length m + total_length behind)) same ∙ sym (total_append before (x ∷ behind)))
 
-module _ (node inode top : ℕ) (type : ℕ → ℕ) (old : ℕ → List ℕ) (v : IsVolume node inode type old top) (f : IsLayout) (d : ℕ) (name : List ℕ) (block offset : ℕ)
+module _ (node inode top : ℕ) (type : ℕ → ℕ) (old : ℕ → List ℕ) (v : IsVolume node inode type old top) (d : ℕ) (name : List ℕ) (block offset : ℕ)
     (s : Stands old top d name block offset) (now : ℕ) (short : now < 2 ^ 32) (behind : Option ℕ) where
   abbrev at : ℕ
   at = block_numbered old top d
@@ -200,35 +200,35 @@ module _ (node inode top : ℕ) (type : ℕ → ℕ) (old : ℕ → List ℕ) (v
 
   pub set_volume : IsVolume node inode type (written (number_act block offset now behind) old) top
   set_volume = subst (λ a. IsVolume node inode type (written a old) top) act_is
-      (volume_set node inode top type old v f d s.number s.there s.bucket s.few r s.of now short behind s.directory)
+      (volume_set node inode top type old v d s.number s.there s.bucket s.few r s.of now short behind s.directory)
 
   pub set_files : files_of (written (number_act block offset now behind) old) top ≡ with_name (files_of old top) d name (led_to now)
   set_files =
       ap (λ a. files_of (written a old) top) (sym act_is)
-      ∙ (files_set node inode top type old v f d s.number s.there s.bucket s.few r s.of now short behind s.directory
+      ∙ (files_set node inode top type old v d s.number s.there s.bucket s.few r s.of now short behind s.directory
       ∙ ap (λ x. with_name (files_of old top) d x (led_to now)) s.named)
 
   same_numbers : (m : ℕ) → block_numbered later top m ≡ block_numbered old top m
-  same_numbers m = numbered_stays node inode top type old v f d s.number s.there s.bucket s.few r s.of now short behind m
+  same_numbers m = numbered_stays node inode top type old v d s.number s.there s.bucket s.few r s.of now short behind m
 
   pub set_numbered : (m : ℕ) → block_numbered (written (number_act block offset now behind) old) top m ≡ block_numbered old top m
   set_numbered m = subst (λ a. block_numbered (written a old) top m ≡ block_numbered old top m) act_is (same_numbers m)
 
-  p : IsPut node inode top type old v f d s.number s.there (to_le_bytes w32 now) (four_bytes now).1 r.offset behind s.bucket
-  p = put_in node inode top type old v f d s.number s.there s.bucket s.few r s.of now short behind
+  p : IsPut node inode top type old v d s.number s.there (to_le_bytes w32 now) (four_bytes now).1 r.offset behind s.bucket
+  p = put_in node inode top type old v d s.number s.there s.bucket s.few r s.of now short behind
 
   -- records in other blocks, and others of the directory, stay
 
   pub set_others : (d' : ℕ) (name' : List ℕ) (block' offset' : ℕ) → Stands old top d' name' block' offset' → block' ≢ block →
       Stands (written (number_act block offset now behind) old) top d' name' block' offset'
   set_others d' name' block' offset' s' ne = subst (λ a. Stands (written a old) top d' name' block' offset') act_is
-      (put_stands node inode top type old v f d s.number s.there (to_le_bytes w32 now) (four_bytes now).1 r.offset behind s.bucket p d' name' block' offset' s' (λ same. ne (same ∙ sym s.block_is)))
+      (put_stands node inode top type old v d s.number s.there (to_le_bytes w32 now) (four_bytes now).1 r.offset behind s.bucket p d' name' block' offset' s' (λ same. ne (same ∙ sym s.block_is)))
 
   same_places : (k : ℕ) → bucket_block later at k ≡ bucket_block old at k
   same_places k = (λ i. if k == 0 then at else leaf_same node inode top type old later v.typed p.keeps d (k - 1) i)
 
   bytes : (k : ℕ) → All (λ b. b < 256) (bucket_of old at s.bucket)
-  bytes k = bucket_bytes node inode top type old v f d s.number s.there s.bucket s.few
+  bytes k = bucket_bytes node inode top type old v d s.number s.there s.bucket s.few
 
   -- each record of the directory is there still, with its name, at its place
   record_stays : (k : ℕ) → k ≤ leaf_count → (x : Record) → Contains (records_of (bucket_of old at k)) x →
@@ -242,7 +242,7 @@ module _ (node inode top : ℕ) (type : ℕ → ℕ) (old : ℕ → List ℕ) (v
       own same =
           let here : Contains (records_of (bucket_of old at s.bucket)) x = subst (λ j. Contains (records_of (bucket_of old at j)) x) same has in
           let set : records_of (bucket_of later at s.bucket) ≡ map (renumbered r.offset now) (records_of (bucket_of old at s.bucket)) =
-          ap records_of p.bucket ∙ f.numbers_set (bucket_of old at s.bucket) r now (bytes k) s.of short in
+          ap records_of p.bucket ∙ renumbered_read (bucket_of old at s.bucket) r now (bytes k) s.of short in
           let is = renumbered_same r.offset now x in (
             renumbered r.offset now x,
             subst (λ j. Contains (records_of (bucket_of later at j)) (renumbered r.offset now x)) (sym same)
@@ -272,11 +272,11 @@ module _ (node inode top : ℕ) (type : ℕ → ℕ) (old : ℕ → List ℕ) (v
   ends_stay : (k : ℕ) → k ≤ leaf_count → end_of (bucket_of later at k) ≡ end_of (bucket_of old at k)
   ends_stay k few = elim (cases_eq k s.bucket) [
     | inl same ↦
-        let e = entries_set node inode top type old v f d s.number s.there s.bucket s.few r s.of now short behind in
+        let e = entries_set node inode top type old v d s.number s.there s.bucket s.few r s.of now short behind in
         subst (λ j. end_of (bucket_of later at j) ≡ end_of (bucket_of old at j)) (sym same)
-        (ap total_length (new_is node inode top type old v f d s.number s.there s.bucket s.few r s.of now short behind)
+        (ap total_length (new_is node inode top type old v d s.number s.there s.bucket s.few r s.of now short behind)
         ∙ (total_set e.before e.behind (record { number = now; name = r.entry.name }) r.entry refl
-        ∙ sym (ap total_length (old_is node inode top type old v f d s.number s.there s.bucket s.few r s.of now short behind))))
+        ∙ sym (ap total_length (old_is node inode top type old v d s.number s.there s.bucket s.few r s.of now short behind))))
     | inr ne ↦ ap end_of (p.others k few ne)
   ]
 
@@ -284,7 +284,7 @@ module _ (node inode top : ℕ) (type : ℕ → ℕ) (old : ℕ → List ℕ) (v
   lengths_stay k few = elim (cases_eq k s.bucket) [
     | inl same ↦ subst (λ j. length (bucket_of later at j) ≡ length (bucket_of old at j)) (sym same)
         (ap length p.bucket ∙ length_put (bucket_of old at s.bucket) (to_le_bytes w32 now) r.offset
-        (fits node inode top type old v f d s.number s.there s.bucket s.few r s.of now short behind))
+        (fits node inode top type old v d s.number s.there s.bucket s.few r s.of now short behind))
     | inr ne ↦ ap length (p.others k few ne)
   ]
 
@@ -292,7 +292,7 @@ module _ (node inode top : ℕ) (type : ℕ → ℕ) (old : ℕ → List ℕ) (v
   set_place key name' block' offset' place = subst (λ a. IsPlace (written a old) key at name' block' offset') act_is (by place)
     where
       few_of : (k : ℕ) → Contains (candidates (name_hash key name')) k → k ≤ leaf_count
-      few_of k has = candidates_few f.high (name_hash key name') k has
+      few_of k has = candidates_few (name_hash key name') k has
 
       by : IsPlace old key at name' block' offset' → IsPlace later key at name' block' offset'
       by (inr q) =
@@ -314,7 +314,7 @@ module _ (node inode top : ℕ) (type : ℕ → ℕ) (old : ℕ → List ℕ) (v
             block_is = q.block_is ∙ sym (same_places q.bucket);
             offset_is = q.offset_is ∙ ap (λ e. bucket_start q.bucket + e) (sym (ends_stay q.bucket few));
             room = subst (λ x. 5 + length name' ≤ x) (sym (λ i. lengths_stay q.bucket few i - ends_stay q.bucket few i)) q.room;
-            none = λ j has. has_same_name node inode top type old v f d s.number s.there s.bucket s.few r s.of now short behind s.directory j name' (few_of j has) ∙ q.none j has;
+            none = λ j has. has_same_name node inode top type old v d s.number s.there s.bucket s.few r s.of now short behind s.directory j name' (few_of j has) ∙ q.none j has;
           })
 
   -- and the directory
@@ -323,13 +323,13 @@ module _ (node inode top : ℕ) (type : ℕ → ℕ) (old : ℕ → List ℕ) (v
     number = is.number;
     there = is.there;
     block = same_numbers d;
-    key_is = key_stays node inode top type old later v.types.0 v.typed v.apart p.keeps f.paths_once d (bucket_block old at s.bucket) s.number p.some p.part p.changed v.root ∙ is.key_is;
+    key_is = key_stays node inode top type old later v.types.0 v.typed v.apart p.keeps d (bucket_block old at s.bucket) s.number p.some p.part p.changed v.root ∙ is.key_is;
     directory = ap (λ g. kind_of g.mode) p.fields ∙ s.directory;
   })
 
 -- A record is made at a place
 
-module _ (node inode top : ℕ) (type : ℕ → ℕ) (old : ℕ → List ℕ) (v : IsVolume node inode type old top) (f : IsLayout) (d c : ℕ) (key : List ℕ)
+module _ (node inode top : ℕ) (type : ℕ → ℕ) (old : ℕ → List ℕ) (v : IsVolume node inode type old top) (d c : ℕ) (key : List ℕ)
     (at : IsDirectoryAt old top d c key) (name : List ℕ) (number : ℕ) (short : number < 2 ^ 32) (named : IsTrue (is_name name)) (range : All (λ b. b < 256) name)
     (long : length name < 256) (behind : Option ℕ) (block offset : ℕ) (place : IsPlace old key c name block offset) where
   abbrev e : Entry
@@ -347,25 +347,25 @@ module _ (node inode top : ℕ) (type : ℕ → ℕ) (old : ℕ → List ℕ) (v
 
   keeps_by : IsPlace old (key_in old top) (block_numbered old top d) name block offset → Keeps (written (record_act block offset e behind) old) block
   keeps_by (inl q) =
-      let few = candidates_few f.high (name_hash (key_in old top) name) q.bucket q.candidate in
-      let own = made_put node inode top type old v f d at.number some q.bucket few e short named range long q.room behind is_directory q.candidate q.none in
-      let small = made_small node inode top type old v f d at.number some q.bucket few e short named range long q.room behind is_directory q.candidate q.none in
+      let few = candidates_few (name_hash (key_in old top) name) q.bucket q.candidate in
+      let own = made_put node inode top type old v d at.number some q.bucket few e short named range long q.room behind is_directory q.candidate q.none in
+      let small = made_small node inode top type old v d at.number some q.bucket few e short named range long q.room behind is_directory q.candidate q.none in
       let end : ℕ = end_of (bucket_of old (block_numbered old top d) q.bucket) in
       subst (λ (x : ℕ × ℕ). Keeps (written (record_act x.0 x.1 e behind) old) x.0) (λ j. (sym q.block_is j, sym q.offset_is j)) (
-        put_numbered node inode top type old v f d at.number some (entry_bytes e) small end behind q.bucket own,
-        put_stands node inode top type old v f d at.number some (entry_bytes e) small end behind q.bucket own,
+        put_numbered node inode top type old v d at.number some (entry_bytes e) small end behind q.bucket own,
+        put_stands node inode top type old v d at.number some (entry_bytes e) small end behind q.bucket own,
       )
   keeps_by (inr q) =
-      let few = candidates_few f.high (name_hash (key_in old top) name) q.bucket q.candidate in
-      let own = put_in node inode top type old v f d at.number some q.bucket few q.record_of q.there number short behind in
+      let few = candidates_few (name_hash (key_in old top) name) q.bucket q.candidate in
+      let own = put_in node inode top type old v d at.number some q.bucket few q.record_of q.there number short behind in
       let b : ℕ = bucket_block old (block_numbered old top d) q.bucket in
       let o : ℕ = bucket_start q.bucket + q.record_of.offset in
       let set : Keeps (written (number_act b o number behind) old) b = (
-        put_numbered node inode top type old v f d at.number some (to_le_bytes w32 number) (four_bytes number).1 q.record_of.offset behind q.bucket own,
-        put_stands node inode top type old v f d at.number some (to_le_bytes w32 number) (four_bytes number).1 q.record_of.offset behind q.bucket own,
+        put_numbered node inode top type old v d at.number some (to_le_bytes w32 number) (four_bytes number).1 q.record_of.offset behind q.bucket own,
+        put_stands node inode top type old v d at.number some (to_le_bytes w32 number) (four_bytes number).1 q.record_of.offset behind q.bucket own,
       ) in
       let made : Keeps (written (record_act b o (record { number = number; name = q.record_of.entry.name }) behind) old) b =
-      subst (λ m. Keeps m b) (sym (made_as_set node inode top type old v f d at.number some q.bucket few q.record_of q.there number behind short is_directory)) set in
+      subst (λ m. Keeps m b) (sym (made_as_set node inode top type old v d at.number some q.bucket few q.record_of q.there number behind short is_directory)) set in
       subst (λ (x : ℕ × ℕ × List ℕ). Keeps (written (record_act x.0 x.1 (record { number = number; name = x.2 }) behind) old) x.0)
       (λ j. (sym q.block_is j, sym q.offset_is j, q.named j)) made
 
@@ -376,7 +376,7 @@ module _ (node inode top : ℕ) (type : ℕ → ℕ) (old : ℕ → List ℕ) (v
 
 -- It stands in the directory alone
 
-module _ (node inode top : ℕ) (type : ℕ → ℕ) (old : ℕ → List ℕ) (v : IsVolume node inode type old top) (f : IsLayout) (d : ℕ) (name : List ℕ) (block offset : ℕ)
+module _ (node inode top : ℕ) (type : ℕ → ℕ) (old : ℕ → List ℕ) (v : IsVolume node inode type old top) (d : ℕ) (name : List ℕ) (block offset : ℕ)
     (s : Stands old top d name block offset) where
   abbrev own : ℕ
   own = block_numbered old top d
@@ -404,7 +404,7 @@ module _ (node inode top : ℕ) (type : ℕ → ℕ) (old : ℕ → List ℕ) (v
 
       by : (s.bucket ≡ 0) ⊎ (s.bucket ≢ 0) → (k ≡ 0) ⊎ (k ≢ 0) → (d ≡ d') × (s.bucket ≡ k)
       by (inl a) (inl b) = (
-        inodes_apart node inode top type old v.types.0 v.typed v.apart f.paths_once d d' s.there (sym (own_inode a) ∙ (same ∙ in_inode b)),
+        inodes_apart node inode top type old v.types.0 v.typed v.apart d d' s.there (sym (own_inode a) ∙ (same ∙ in_inode b)),
         a ∙ sym b,
       )
       by (inl a) (inr b) =
@@ -416,7 +416,7 @@ module _ (node inode top : ℕ) (type : ℕ → ℕ) (old : ℕ → List ℕ) (v
           (λ z. stands_block old old top d name block offset s (own_leaf a ∙ z)) e)
       by (inr a) (inr b) =
           let high = s.few in
-          let e = leaves_apart node inode top type old v.types.0 v.typed v.apart f.paths_once d d' (s.bucket - 1) (k - 1) (omega arith) (omega arith)
+          let e = leaves_apart node inode top type old v.types.0 v.typed v.apart d d' (s.bucket - 1) (k - 1) (omega arith) (omega arith)
           (λ z. stands_block old old top d name block offset s (own_leaf a ∙ z)) (sym (own_leaf a) ∙ (same ∙ leaf b)) in
           let places : s.bucket - 1 ≡ k - 1 = e.1 in
           (e.0, omega arith)
@@ -496,7 +496,7 @@ module _ (bytes : List ℕ) (range : All (λ b. b < 256) bytes) (r : Record) (ha
       let long : length front ≡ total_length before = ap length front_is ∙ length-joined before in
       omega arith
 
-module _ (node inode top : ℕ) (type : ℕ → ℕ) (old : ℕ → List ℕ) (v : IsVolume node inode type old top) (f : IsLayout) (n : ℕ) (number : n ≢ 0) (there : block_numbered old top n ≢ 0)
+module _ (node inode top : ℕ) (type : ℕ → ℕ) (old : ℕ → List ℕ) (v : IsVolume node inode type old top) (n : ℕ) (number : n ≢ 0) (there : block_numbered old top n ≢ 0)
     (k : ℕ) (few : k ≤ leaf_count) (directory : kind_of (fields_of (old (block_numbered old top n))).mode ≡ Some kind.Directory)
     (some : 0 < end_of (bucket_of old (block_numbered old top n) k)) where
   abbrev dir : ℕ
@@ -508,32 +508,32 @@ module _ (node inode top : ℕ) (type : ℕ → ℕ) (old : ℕ → List ℕ) (v
   abbrev then : ℕ → List ℕ
   then = written (rewritten_act (bucket_block old dir k) (bucket_start k) (bucket_of old dir k)) old
 
-  w : IsPut node inode top type old v f n number there (rewritten m) (rewriting_small node inode top type old v f n number there k few directory some) 0 None k
-  w = rewriting_put node inode top type old v f n number there k few directory some
+  w : IsPut node inode top type old v n number there (rewritten m) (rewriting_small node inode top type old v n number there k few directory some) 0 None k
+  w = rewriting_put node inode top type old v n number there k few directory some
 
   same_act : patch_act (bucket_block old dir k) (one_patch (bucket_start k + 0) (rewritten m)) None ≡ rewritten_act (bucket_block old dir k) (bucket_start k) m
-  same_act = rewriting_act node inode top type old v f n number there k few directory some
+  same_act = rewriting_act node inode top type old v n number there k few directory some
 
   pub rewriting_numbered : (x : ℕ) → block_numbered (written (rewritten_act (bucket_block old dir k) (bucket_start k) (bucket_of old dir k)) old) top x ≡ block_numbered old top x
   rewriting_numbered x = subst (λ a. block_numbered (written a old) top x ≡ block_numbered old top x) same_act
-      (put_numbered node inode top type old v f n number there (rewritten m) (rewriting_small node inode top type old v f n number there k few directory some) 0 None k w x)
+      (put_numbered node inode top type old v n number there (rewritten m) (rewriting_small node inode top type old v n number there k few directory some) 0 None k w x)
 
   pub rewriting_stands : (d' : ℕ) (name' : List ℕ) (block' offset' : ℕ) → Stands old top d' name' block' offset' → block' ≢ bucket_block old (block_numbered old top n) k →
       Stands (written (rewritten_act (bucket_block old dir k) (bucket_start k) (bucket_of old dir k)) old) top d' name' block' offset'
   rewriting_stands d' name' block' offset' s' ne = subst (λ a. Stands (written a old) top d' name' block' offset') same_act
-      (put_stands node inode top type old v f n number there (rewritten m) (rewriting_small node inode top type old v f n number there k few directory some) 0 None k w d' name' block' offset' s' ne)
+      (put_stands node inode top type old v n number there (rewritten m) (rewriting_small node inode top type old v n number there k few directory some) 0 None k w d' name' block' offset' s' ne)
 
   -- a live record of the bucket itself stands behind the live ones before it
   pub rewriting_own : (r : Record) → Contains (records_of (bucket_of old dir k)) r → is_live r.entry ≡ true →
       Stands (written (rewritten_act (bucket_block old dir k) (bucket_start k) (bucket_of old dir k)) old) top n r.entry.name (bucket_block old dir k)
       (bucket_start k + (length (take r.offset (bucket_of old dir k)) - room_without (take r.offset (bucket_of old dir k))))
   rewriting_own r has live =
-      let range = bucket_bytes node inode top type old v f n number there k few in
+      let range = bucket_bytes node inode top type old v n number there k few in
       let new : ℕ → List ℕ = written (patch_act (bucket_block old dir k) (one_patch (bucket_start k + 0) (rewritten m)) None) old in
       let sp = split m range r has in
-      let numbered = put_numbered node inode top type old v f n number there (rewritten m) (rewriting_small node inode top type old v f n number there k few directory some) 0 None k w n in
+      let numbered = put_numbered node inode top type old v n number there (rewritten m) (rewriting_small node inode top type old v n number there k few directory some) 0 None k w n in
       let entries : bucket_entries new dir k ≡ filter is_live sp.before ++ r.entry ∷ filter is_live sp.behind =
-      rewriting_new node inode top type old v f n number there k few directory some ∙ (ap (filter is_live) sp.all ∙ live_parts sp.before sp.behind r.entry live) in
+      rewriting_new node inode top type old v n number there k few directory some ∙ (ap (filter is_live) sp.all ∙ live_parts sp.before sp.behind r.entry live) in
       let at : ℕ = total_length (filter is_live sp.before) in
       let there' : Contains (records_of (bucket_of new dir k)) (record { offset = 0 + at; entry = r.entry }) =
       subst (λ es. Contains (placed 0 es) (record { offset = 0 + at; entry = r.entry })) (sym entries) (placed_there 0 (filter is_live sp.before) (filter is_live sp.behind) r.entry) in

@@ -9,8 +9,9 @@ use Rattle.treefs_format.specs.Candidates.{candidate, candidates, first_bucket}
 use Rattle.treefs_format.specs.Fields.{fields_of}
 use Rattle.treefs_format.specs.declared.fields.Fields.{Fields}
 use Rattle.treefs_format.specs.Inodes.{kind_of}
-use Rattle.treefs_format.specs.Paths.{leaf_count, steps}
+use Rattle.treefs_format.specs.Paths.{leaf_count}
 use Rattle.treefs_format.specs.declared.kind.Kind.TheVariants as kind
+use Rattle.treefs_format.proofs.ForCallers.{candidate_below}
 use Rattle.treefs_model.specs.Files.{Directory, Names, changed_in, renamed_in, with_name}
 use Rattle.treefs_model.specs.Reading.{content_at, files_of, inode_of, inode_with, key_in, number_of}
 use Rattle.treefs_values.specs.Parts.{IsChangedAt, IsPartOf}
@@ -35,14 +36,13 @@ first_few (suc (suc (suc (suc (suc (suc (suc (suc zero)))))))) few = omega arith
 first_few (suc (suc (suc (suc (suc (suc (suc (suc (suc zero))))))))) few = omega arith
 first_few (suc (suc (suc (suc (suc (suc (suc (suc (suc (suc l)))))))))) few = absurd (omega arith)
 
-module _ (high : (hash level : ℕ) → candidate hash level < first_bucket (level + 1)) where
-  at_level : (hash level : ℕ) → level ≤ 8 → candidate hash level ≤ leaf_count
-  at_level hash level few = let below = high hash level in let bound = first_few (level + 1) (omega arith) in omega arith
+at_level : (hash level : ℕ) → level ≤ 8 → candidate hash level ≤ leaf_count
+at_level hash level few = let below = candidate_below hash level in let bound = first_few (level + 1) (omega arith) in omega arith
 
-  pub candidates_few : (hash k : ℕ) → Contains (candidates hash) k → k ≤ leaf_count
-  candidates_few hash k has = All-contains (λ j. j ≤ leaf_count) (candidates hash) k
-      (All-map (λ j. j ≤ leaf_count) (candidate hash) (range_with_len 0 9)
-      (λ i d lt. at_level hash (get_or (range_with_len 0 9) i d) (range_few i d (let long = length-range_with_len 0 9 in omega arith)))) has
+pub candidates_few : (hash k : ℕ) → Contains (candidates hash) k → k ≤ leaf_count
+candidates_few hash k has = All-contains (λ j. j ≤ leaf_count) (candidates hash) k
+    (All-map (λ j. j ≤ leaf_count) (candidate hash) (range_with_len 0 9)
+    (λ i d lt. at_level hash (get_or (range_with_len 0 9) i d) (range_few i d (let long = length-range_with_len 0 9 in omega arith)))) has
 
 -- The value of a directory
 
@@ -57,7 +57,6 @@ directory_read content key c f is kind_is =
 
 module _ (node inode top : ℕ) (type : ℕ → ℕ) (old new : ℕ → List ℕ) (other : node ≢ inode) (typed : IsTyped node inode type old top)
     (apart : ArePointersApart node inode type old top) (keeps : SamePointers node inode type old new)
-    (paths_once : (i j : ℕ) → i < leaf_count → j < leaf_count → steps i ≡ steps j → i ≡ j)
     (n b : ℕ) (number : n ≢ 0) (some : b ≢ 0) (part : IsPartOf old top n b) (changed : IsChangedAt b old new) (root : top ≢ 0) where
   abbrev c : ℕ
   c = block_numbered old top n
@@ -65,10 +64,10 @@ module _ (node inode top : ℕ) (type : ℕ → ℕ) (old new : ℕ → List ℕ
   module _ (fields_stay : fields_of (new c) ≡ fields_of (old c)) (is_directory : kind_of (fields_of (old c)).mode ≡ Some kind.Directory)
       (name : List ℕ) (now : Option ℕ) (numbers : (x : List ℕ) → number_of new (key_in old top) c x ≡ named_as (number_of old (key_in old top) c) name now x) where
     pub files_named : files_of new top ≡ with_name (files_of old top) n name now
-    files_named = files_changed node inode top type old new other typed apart keeps paths_once n b number some part changed root (renamed_in name now)
-        (own_read node inode top type old new other typed apart keeps paths_once n b number some part changed root
+    files_named = files_changed node inode top type old new other typed apart keeps n b number some part changed root (renamed_in name now)
+        (own_read node inode top type old new other typed apart keeps n b number some part changed root
         ∙ (directory_read new (key_in old top) c (fields_of (old c)) fields_stay is_directory
         ∙ (ap (λ g. Some (inode_with (fields_of (old c)) (Directory (fields_of (old c)).parent g))) (fun_ext numbers)
         ∙ sym (ap (changed_in (renamed_in name now))
-        (own_was node inode top type old new other typed apart keeps paths_once n b number some part changed
+        (own_was node inode top type old new other typed apart keeps n b number some part changed
         ∙ directory_read old (key_in old top) c (fields_of (old c)) refl is_directory)))))

@@ -16,7 +16,6 @@ use Rattle.treefs_lookup.specs.declared.names.Slot.{Slot}
 use Rattle.treefs_edits.specs.Kinds.{links_act}
 use Rattle.treefs_edits.specs.Written.{all_written, written}
 use Rattle.treefs_edits.specs.declared.times.Times.{Times}
-use Rattle.treefs_values.specs.KnownLayout.{IsLayout}
 use Rattle.treefs_values.specs.Values.{AreChanges, led_to, links_parts, inode_with_links}
 use Rattle.treefs_values.specs.Volumes.{IsVolume}
 use Rattle.treefs_values.specs.Ways.{block_numbered}
@@ -44,7 +43,7 @@ module _ (was : Fields) (links : ℕ) where
   links_make None (Some parent) content stands = refl
   links_make (Some times) (Some parent) content stands = refl
 
-module _ (node inode top : ℕ) (type : ℕ → ℕ) (old : ℕ → List ℕ) (v : IsVolume node inode type old top) (f : IsLayout) (d : ℕ) (name : List ℕ) (slot : Slot)
+module _ (node inode top : ℕ) (type : ℕ → ℕ) (old : ℕ → List ℕ) (v : IsVolume node inode type old top) (d : ℕ) (name : List ℕ) (slot : Slot)
     (slot_is : entry_found old top d name ≡ Ok slot) (found : Found) (found_is : inode_found old top slot.number ≡ Ok found) (links : ℕ) (times : Option Times) (parent : Option ℕ)
     (fine : All AreChanges (links_parts links times parent)) (number : ℕ) (short : number < 2 ^ 32) (behind behind' : Option ℕ) where
   e : IsEntry old top d name slot
@@ -60,10 +59,10 @@ module _ (node inode top : ℕ) (type : ℕ → ℕ) (old : ℕ → List ℕ) (v
   middle = written ends old
 
   first : IsVolume node inode type middle top × (files_of middle top ≡ with_name (files_of old top) d name (led_to number))
-  first = found_renamed node inode top type old v f d name slot slot_is number short behind
+  first = found_renamed node inode top type old v d name slot slot_is number short behind
 
   few : e.bucket ≤ leaf_count
-  few = candidates_few f.high _ e.bucket e.candidate
+  few = candidates_few _ e.bucket e.candidate
 
   -- the same act, by the bucket and the record
   abbrev Stays : Act → Type 0
@@ -73,8 +72,8 @@ module _ (node inode top : ℕ) (type : ℕ → ℕ) (old : ℕ → List ℕ) (v
   stays : Stays ends
   stays =
       subst Stays (λ j. number_act (sym e.slot_is.block j) (sym e.slot_is.offset j) number behind) (
-        fields_stay node inode top type old v f d e.number e.there e.bucket few e.record_of e.slot_is.of.there number short behind slot.number i.number i.there,
-        numbered_stays node inode top type old v f d e.number e.there e.bucket few e.record_of e.slot_is.of.there number short behind slot.number,
+        fields_stay node inode top type old v d e.number e.there e.bucket few e.record_of e.slot_is.of.there number short behind slot.number i.number i.there,
+        numbered_stays node inode top type old v d e.number e.there e.bucket few e.record_of e.slot_is.of.there number short behind slot.number,
       )
 
   abbrev c : ℕ
@@ -91,7 +90,7 @@ module _ (node inode top : ℕ) (type : ℕ → ℕ) (old : ℕ → List ℕ) (v
 
   second : Said found.block
   second = subst Said block
-      (fields_changed node inode top type middle first.0 f slot.number i.number (λ z. i.there (sym stays.1 ∙ z)) (links_parts links times parent) fine behind' (same_size (fields_of (middle c)) links times parent).0
+      (fields_changed node inode top type middle first.0 slot.number i.number (λ z. i.there (sym stays.1 ∙ z)) (links_parts links times parent) fine behind' (same_size (fields_of (middle c)) links times parent).0
       (same_size (fields_of (middle c)) links times parent).1 (inode_with_links links times parent) (links_make (fields_of (middle c)) links times parent))
 
   pub name_led : IsVolume node inode type (all_written (ends ∷ links_act found.block links times parent behind' ∷ []) old) top
@@ -100,10 +99,10 @@ module _ (node inode top : ℕ) (type : ℕ → ℕ) (old : ℕ → List ℕ) (v
   name_led = (second.0, second.1 ∙ ap (λ files. changed_at files slot.number (inode_with_links links times parent)) first.1)
 
 -- a name ends: its number becomes 0
-module _ (node inode top : ℕ) (type : ℕ → ℕ) (old : ℕ → List ℕ) (v : IsVolume node inode type old top) (f : IsLayout) (d : ℕ) (name : List ℕ) (slot : Slot)
+module _ (node inode top : ℕ) (type : ℕ → ℕ) (old : ℕ → List ℕ) (v : IsVolume node inode type old top) (d : ℕ) (name : List ℕ) (slot : Slot)
     (slot_is : entry_found old top d name ≡ Ok slot) (found : Found) (found_is : inode_found old top slot.number ≡ Ok found) (links : ℕ) (times : Option Times) (parent : Option ℕ)
     (fine : All AreChanges (links_parts links times parent)) (behind behind' : Option ℕ) where
   pub name_ended : IsVolume node inode type (all_written (number_act slot.block slot.offset 0 behind ∷ links_act found.block links times parent behind' ∷ []) old) top
       × (files_of (all_written (number_act slot.block slot.offset 0 behind ∷ links_act found.block links times parent behind' ∷ []) old) top
       ≡ changed_at (with_name (files_of old top) d name None) slot.number (inode_with_links links times parent))
-  name_ended = name_led node inode top type old v f d name slot slot_is found found_is links times parent fine 0 (omega arith) behind behind'
+  name_ended = name_led node inode top type old v d name slot slot_is found found_is links times parent fine 0 (omega arith) behind behind'

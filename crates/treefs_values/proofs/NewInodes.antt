@@ -11,7 +11,7 @@ use Rattle.std.proofs.lemmas.List.FromFn.{get_or-map-range_with_len, length-rang
 use Rattle.std.proofs.lemmas.Option.{same_Some}
 use Rattle.xn_model.specs.BareDisks.{zeros}
 use Rattle.xn_model.specs.Root.{word_at}
-use Rattle.treefs_format.proofs.ForCallers.{no_length, words_get}
+use Rattle.treefs_format.proofs.ForCallers.{fields_read, inode_content, inode_pointers, no_length, words_get}
 use Rattle.treefs_format.proofs.Made.{blank_drop, zeros_none}
 use Rattle.treefs_format.specs.Buckets.{has_name as record_has_name, is_whole}
 use Rattle.treefs_format.specs.Candidates.{candidates, name_hash}
@@ -27,7 +27,6 @@ use Rattle.treefs_model.specs.Files.{Directory, File, SymbolicLink}
 use Rattle.treefs_model.specs.Reading.{block_at, bucket_of, byte_of, bytes_of, content_at, inode_of, inode_with, leaf_block, leaf_byte, number_among, number_of, pointed}
 use Rattle.treefs_model.specs.Trees.{has_name, names_once}
 use Rattle.treefs_values.specs.Attached.{IsFreeInode, new_content}
-use Rattle.treefs_values.specs.KnownLayout.{IsLayout}
 use Rattle.treefs_values.specs.Names.{bucket_entries}
 use Rattle.treefs_values.specs.Volumes.{IsDirectory}
 use Rattle.treefs_values.specs.Ways.{IsFirst, IsWay}
@@ -103,16 +102,16 @@ inode_small f head range small =
 
 -- The inode
 
-module _ (node inode : ℕ) (type : ℕ → ℕ) (content : ℕ → List ℕ) (key : List ℕ) (block : ℕ) (fields : Fields) (head : List ℕ) (known : IsLayout)
+module _ (node inode : ℕ) (type : ℕ → ℕ) (content : ℕ → List ℕ) (key : List ℕ) (block : ℕ) (fields : Fields) (head : List ℕ)
     (is : content block ≡ inode_bytes fields head) (range : AreInRange fields) (short : length head ≤ 384) (size : fields.size ≡ length head) where
   pointers : pointers_of (content block) ≡ replicate 20 0
-  pointers = ap pointers_of is ∙ known.inode_pointers fields head
+  pointers = ap pointers_of is ∙ inode_pointers fields head
 
   said : fields_of (content block) ≡ fields
-  said = ap fields_of is ∙ known.inode_fields fields head range
+  said = ap fields_of is ∙ fields_read fields head range
 
   begins : content_of (content block) ≡ head ++ zeros (384 - length head)
-  begins = ap content_of is ∙ known.inode_content fields head
+  begins = ap content_of is ∙ inode_content fields head
 
   none_at : (o l : ℕ) → IsFirst o l → pointed content block o ≡ 0
   none_at o l first = by (cases_eq block 0) (bare_inode (content block) pointers o (stands first).0 (stands first).1 (stands first).2)

@@ -12,6 +12,7 @@ use Rattle.treefs_format.specs.Paths.{leaf_count}
 use Rattle.treefs_format.specs.Records.{Entry, Record, entries_of, records_of, total_length}
 use Rattle.treefs_format.specs.declared.kind.Kind.TheVariants as kind
 use Rattle.treefs_format.proofs.Made.{Renumbered, renumbered_entries, split_at}
+use Rattle.treefs_format.proofs.ForCallers.{ends_within, renumbered_whole}
 use Rattle.treefs_model.specs.Acts.{number_act}
 use Rattle.treefs_model.specs.Files.{with_name}
 use Rattle.treefs_model.specs.Reading.{bucket_of, files_of, key_in, leaf_block, number_of}
@@ -27,7 +28,6 @@ use Rattle.treefs_values.proofs.Elsewhere.{other_alike}
 use Rattle.treefs_values.proofs.Ways.{numbered_same}
 use Rattle.treefs_values.proofs.Entries.{same_bytes}
 use Rattle.treefs_values.proofs.Kept.{still_volume}
-use Rattle.treefs_values.specs.KnownLayout.{IsLayout}
 use Rattle.treefs_values.proofs.Named.{candidates_few, files_named, named_as}
 use Rattle.treefs_values.proofs.Numbers.{among_numbers, has_same, names_set, number_set, own_there}
 use Rattle.treefs_values.proofs.Putting.{IsPut, is_put}
@@ -48,7 +48,7 @@ bytes_small i (suc k) n = All-cons (λ b. b < 256) (byte_at i n) (bytes_low_firs
 pub four_bytes : (n : ℕ) → (length (to_le_bytes w32 n) ≡ 4) × All (λ b. b < 256) (to_le_bytes w32 n)
 four_bytes n = (refl, bytes_small 0 4 n)
 
-module _ (node inode top : ℕ) (type : ℕ → ℕ) (old : ℕ → List ℕ) (v : IsVolume node inode type old top) (f : IsLayout)
+module _ (node inode top : ℕ) (type : ℕ → ℕ) (old : ℕ → List ℕ) (v : IsVolume node inode type old top)
     (n : ℕ) (number : n ≢ 0) (there : block_numbered old top n ≢ 0) (k : ℕ) (few : k ≤ leaf_count) where
   abbrev c : ℕ
   c = block_numbered old top n
@@ -87,13 +87,13 @@ module _ (node inode top : ℕ) (type : ℕ → ℕ) (old : ℕ → List ℕ) (v
     fits =
         let s = split_at (entries_of (bucket_of old c k)) 0 r has in
         let at = s.there in
-        let total : total_length (s.before ++ r.entry ∷ s.behind) ≤ length (bucket_of old c k) = subst (λ es. total_length es ≤ length (bucket_of old c k)) s.all (f.within (bucket_of old c k)) in
+        let total : total_length (s.before ++ r.entry ∷ s.behind) ≤ length (bucket_of old c k) = subst (λ es. total_length es ≤ length (bucket_of old c k)) s.all (ends_within (bucket_of old c k)) in
         let sum = total_append s.before (r.entry ∷ s.behind) in
         let four = (four_bytes now).0 in
         omega arith
 
-    pub put_in : IsPut node inode top type old v f n number there bytes (four_bytes now).1 r.offset behind k
-    put_in = is_put node inode top type old v f n number there bytes (four_bytes now).1 r.offset behind (let four = (four_bytes now).0 in omega arith) k few fits
+    pub put_in : IsPut node inode top type old v n number there bytes (four_bytes now).1 r.offset behind k
+    put_in = is_put node inode top type old v n number there bytes (four_bytes now).1 r.offset behind (let four = (four_bytes now).0 in omega arith) k few fits
 
     pub entries_set : Renumbered (bucket_of old c k) r now
     entries_set = renumbered_entries (bucket_of old c k) r now bucket_bytes has short
@@ -121,13 +121,13 @@ module _ (node inode top : ℕ) (type : ℕ → ℕ) (old : ℕ → List ℕ) (v
         valid = λ j name few' there'. was.valid j name few' (sym (has_same_name j name few') ∙ there');
         whole = λ j few'. elim (cases_eq j k) [
           | inl same ↦ subst (λ i. IsTrue (is_whole (bucket_of new c i))) (sym same)
-              (subst (λ m. IsTrue (is_whole m)) (sym put_in.bucket) (f.numbers_whole (bucket_of old c k) r now bucket_bytes has short (was.whole k few)))
+              (subst (λ m. IsTrue (is_whole m)) (sym put_in.bucket) (renumbered_whole (bucket_of old c k) r now bucket_bytes has short (was.whole k few)))
           | inr ne ↦ subst (λ m. IsTrue (is_whole m)) (sym (put_in.others j few' ne)) (was.whole j few')
         ];
       }
 
       pub volume_set : IsVolume node inode type new top
-      volume_set = still_volume node inode top type old new v f.paths_once n (bucket_block old c k) number put_in.some put_in.part put_in.changed put_in.keeps put_in.is_block
+      volume_set = still_volume node inode top type old new v n (bucket_block old c k) number put_in.some put_in.part put_in.changed put_in.keeps put_in.is_block
           (λ directory'. directory_set)
 
       here : IsTrue (has_name (bucket_entries old c k) r.entry.name)
@@ -138,12 +138,12 @@ module _ (node inode top : ℕ) (type : ℕ → ℕ) (old : ℕ → List ℕ) (v
           let ks = candidates (name_hash key x) in
           among_numbers new c x ks
           ∙ (number_set old new c k few was.names entries_set.before entries_set.behind r.entry.name r.entry.number now old_is new_is others x ks
-          (candidates_few f.high (name_hash key x))
+          (candidates_few (name_hash key x))
           (λ same. subst (λ y. Contains (candidates (name_hash key y)) k) (sym (same_bytes x r.entry.name same)) (was.placed k r.entry.name few here))
           ∙ ap (λ o. if bytes_eq x r.entry.name then led_to now else o) (sym (among_numbers old c x ks)))
 
       pub files_set : files_of new top ≡ with_name (files_of old top) n r.entry.name (led_to now)
-      files_set = files_named node inode top type old new v.types.0 v.typed v.apart put_in.keeps f.paths_once n (bucket_block old c k) number put_in.some put_in.part put_in.changed
+      files_set = files_named node inode top type old new v.types.0 v.typed v.apart put_in.keeps n (bucket_block old c k) number put_in.some put_in.part put_in.changed
           v.root put_in.fields directory r.entry.name (led_to now) numbers_are
 
     -- the fields of all inodes stay
@@ -151,7 +151,7 @@ module _ (node inode top : ℕ) (type : ℕ → ℕ) (old : ℕ → List ℕ) (v
     fields_stay m some m_there = elim (cases_eq m n) [
       | inl same ↦ ap (λ x. fields_of (new (block_numbered old top x))) same ∙ (put_in.fields ∙ sym (ap (λ x. fields_of (old (block_numbered old top x))) same))
       | inr ne ↦
-          let a = other_alike node inode top type old new v.types.0 v.typed v.apart put_in.keeps f.paths_once n (bucket_block old c k) number put_in.some put_in.part put_in.changed m ne some m_there in
+          let a = other_alike node inode top type old new v.types.0 v.typed v.apart put_in.keeps n (bucket_block old c k) number put_in.some put_in.part put_in.changed m ne some m_there in
           ap fields_of a.own
     ]
 

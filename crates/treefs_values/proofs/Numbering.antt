@@ -18,7 +18,6 @@ use Rattle.treefs_model.specs.Trees.{has_pointer}
 use Rattle.treefs_lookup.specs.Readable.{readable}
 use Rattle.treefs_values.specs.Attached.{IsFreeInode, IsPointerSet, new_content}
 use Rattle.treefs_values.specs.Kinds.{kinds}
-use Rattle.treefs_values.specs.KnownLayout.{IsLayout}
 use Rattle.treefs_values.specs.Volumes.{IsVolume, IsWholeBlock}
 use Rattle.treefs_values.specs.Ways.{ArePointersApart, IsWay}
 use Rattle.treefs_values.proofs.Attaching.{attached_inodes, files_attached, volume_attached, was_free}
@@ -29,7 +28,7 @@ use Rattle.treefs_values.proofs.Standing.{KeepsInodes}
 use Rattle.treefs_values.proofs.Walks.{IsAt, IsEdit, still_apart}
 use Rattle.treefs_values.proofs.Ways.{steps_way}
 
-module _ (T : Types) (fs node inode top : ℕ) (few : fs < 32) (tree : IsTree T node inode) (known : IsLayout) (old s1 : StoreState) (here : IsAt T fs node inode top old)
+module _ (T : Types) (fs node inode top : ℕ) (few : fs < 32) (tree : IsTree T node inode) (old s1 : StoreState) (here : IsAt T fs node inode top old)
     (n : ℕ) (number : n ≢ 0) (n_few : n - 1 < leaf_count) (o : ℕ) (q : List ℕ) (steps_are : steps (n - 1) ≡ o ∷ q)
     (holder : ℕ) (holder_is : holder ≡ block_at (readable old fs) top q) (some : holder ≢ 0) (none : pointed (readable old fs) holder o ≡ 0)
     (x : New) (new : IsNew node inode (kinds old fs) (readable old fs) top x) (of_type : x.ty ≡ inode) (behind : Option ℕ)
@@ -60,7 +59,7 @@ module _ (T : Types) (fs node inode top : ℕ) (few : fs < 32) (tree : IsTree T 
 
   set' : IsPointerSet node inode (kinds old fs) (readable old fs) (readable s1 fs) holder o x.block
   set' = subst (λ c. IsPointerSet node inode (kinds old fs) (readable old fs) c holder o x.block) (sym edit.reads)
-      (pointer_set node inode (kinds old fs) (readable old fs) holder o inode x.block behind v.types.0 some whole has none new.within known.pointers_others)
+      (pointer_set node inode (kinds old fs) (readable old fs) holder o inode x.block behind v.types.0 some whole has none new.within)
 
   set : IsPointerSet node inode (kinds old fs) (readable old fs) (readable s1 fs) (block_at (readable old fs) top q) o x.block
   set = subst (λ b. IsPointerSet node inode (kinds old fs) (readable old fs) (readable s1 fs) b o x.block) holder_is set'
@@ -79,35 +78,35 @@ module _ (T : Types) (fs node inode top : ℕ) (few : fs < 32) (tree : IsTree T 
   bytes_are = new.bytes ∙ of_bytes
 
   free : IsFreeInode node inode (kinds old fs) (readable old fs) (key_in (readable old fs) top) x.block
-  free = new_free node inode (kinds old fs) (readable old fs) (key_in (readable old fs) top) x.block fields head known bytes_are range short size k kind_is empty new.there (new.typed ∙ of_type)
+  free = new_free node inode (kinds old fs) (readable old fs) (key_in (readable old fs) top) x.block fields head bytes_are range short size k kind_is empty new.there (new.typed ∙ of_type)
 
   alone : x.block ≢ block_at (readable old fs) top q
   alone same = at_other node inode top (kinds old fs) (readable old fs) v x new 0 0 o q way at_some (sym same)
 
   no_tree : (l : ℕ) (os : List ℕ) → IsWay os l → block_at (readable old fs) x.block os ≢ 0 → block_at (readable old fs) x.block os ≢ block_at (readable old fs) top q
   no_tree l os way there =
-      absurd (there (way_none node inode (kinds old fs) (readable old fs) (key_in (readable old fs) top) x.block fields head known bytes_are range short size l os way))
+      absurd (there (way_none node inode (kinds old fs) (readable old fs) (key_in (readable old fs) top) x.block fields head bytes_are range short size l os way))
 
   pub numbered_here : IsAt T fs node inode top s1
   numbered_here = record {
     store = edit.store;
     root = root;
     volume = subst (λ t. IsVolume node inode t (readable s1 fs) top) (sym edit.types)
-        (volume_attached node inode top (kinds old fs) (readable old fs) (readable s1 fs) v known n number n_few o q steps_are at_some x.block set free alone no_tree apart holder_fine);
+        (volume_attached node inode top (kinds old fs) (readable old fs) (readable s1 fs) v n number n_few o q steps_are at_some x.block set free alone no_tree apart holder_fine);
   }
 
   pub numbered_was : files_of (readable old fs) top n ≡ None
-  numbered_was = was_free node inode top (kinds old fs) (readable old fs) (readable s1 fs) v known n number n_few o q steps_are at_some x.block set
+  numbered_was = was_free node inode top (kinds old fs) (readable old fs) (readable s1 fs) v n number n_few o q steps_are at_some x.block set
 
   pub numbered_files : files_of (readable s1 fs) top
       ≡ with_inode (files_of (readable old fs) top) n (Some (inode_with fields (new_content k fields.parent head)))
   numbered_files =
-      files_attached node inode top (kinds old fs) (readable old fs) (readable s1 fs) v known n number n_few o q steps_are at_some x.block set free alone no_tree
+      files_attached node inode top (kinds old fs) (readable old fs) (readable s1 fs) v n number n_few o q steps_are at_some x.block set free alone no_tree
       ∙ ap (with_inode (files_of (readable old fs) top) n)
-      (new_value node inode (kinds old fs) (readable old fs) (key_in (readable old fs) top) x.block fields head known bytes_are range short size k kind_is empty)
+      (new_value node inode (kinds old fs) (readable old fs) (key_in (readable old fs) top) x.block fields head bytes_are range short size k kind_is empty)
 
   pub numbered_inodes : KeepsInodes (readable old fs) (readable s1 fs) top
-  numbered_inodes = attached_inodes node inode top (kinds old fs) (readable old fs) (readable s1 fs) v known n number n_few o q steps_are at_some x.block set free alone no_tree
+  numbered_inodes = attached_inodes node inode top (kinds old fs) (readable old fs) (readable s1 fs) v n number n_few o q steps_are at_some x.block set free alone no_tree
 
   pub numbered_keeps : (y : New) → IsNew node inode (kinds old fs) (readable old fs) top y → IsOther x y → IsNew node inode (kinds s1 fs) (readable s1 fs) top y
   numbered_keeps y is ne =

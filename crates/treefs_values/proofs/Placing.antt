@@ -15,6 +15,7 @@ use Rattle.treefs_format.specs.Paths.{leaf_count, steps}
 use Rattle.treefs_format.specs.Records.{Entry, Record, end_of, entries_of, records_of, total_length}
 use Rattle.treefs_format.specs.declared.kind.Kind.TheVariants as kind
 use Rattle.treefs_format.proofs.Made.{length-rewritten, live_within, zeros_none}
+use Rattle.treefs_format.proofs.ForCallers.{ends_within}
 use Rattle.treefs_model.specs.Acts.{Act, one_patch, patch_act, record_act}
 use Rattle.treefs_model.specs.Files.{with_name}
 use Rattle.treefs_model.specs.Reading.{block_at, bucket_of, files_of, key_in, leaf_block}
@@ -24,7 +25,6 @@ use Rattle.treefs_lookup.specs.Readable.{readable}
 use Rattle.treefs_edits.specs.Kinds.{rewritten_act}
 use Rattle.treefs_edits.specs.Written.{written}
 use Rattle.treefs_values.specs.Kinds.{kinds}
-use Rattle.treefs_values.specs.KnownLayout.{IsLayout}
 use Rattle.treefs_values.specs.Names.{bucket_entries}
 use Rattle.treefs_values.specs.Parts.{IsChangedAt}
 use Rattle.treefs_values.specs.Values.{led_to}
@@ -144,7 +144,7 @@ module _ (old new : ℕ → List ℕ) (key : List ℕ) (c : ℕ) (name : List �
 
 -- The record is made there
 
-module _ (node inode top : ℕ) (type : ℕ → ℕ) (content : ℕ → List ℕ) (v : IsVolume node inode type content top) (known : IsLayout) (d c : ℕ) (key : List ℕ)
+module _ (node inode top : ℕ) (type : ℕ → ℕ) (content : ℕ → List ℕ) (v : IsVolume node inode type content top) (d c : ℕ) (key : List ℕ)
     (at : IsDirectoryAt content top d c key) (name : List ℕ) (number : ℕ) (short : number < 2 ^ 32) (named : IsTrue (is_name name)) (range : All (λ b. b < 256) name)
     (long : length name < 256) (behind : Option ℕ) (block offset : ℕ) where
   abbrev in_block : ℕ
@@ -163,17 +163,17 @@ module _ (node inode top : ℕ) (type : ℕ → ℕ) (content : ℕ → List ℕ
   is_one = subst (λ x. kind_of (fields_of (content x)).mode ≡ Some kind.Directory) (sym at.block) at.directory
 
   few_for : (k : ℕ) → Contains (candidates (name_hash (key_in content top) name)) k → k ≤ leaf_count
-  few_for k has = candidates_few known.high (name_hash (key_in content top) name) k has
+  few_for k has = candidates_few (name_hash (key_in content top) name) k has
 
   by_place : IsPlace content (key_in content top) in_block name block offset → Said (record_act block offset e behind)
   by_place (inl p) = subst Said (λ j. record_act (sym p.block_is j) (sym p.offset_is j) e behind) (
-    volume_made node inode top type content v known d at.number is_some_block p.bucket (few_for p.bucket p.candidate) e short named range long p.room behind is_one p.candidate p.none,
-    files_made node inode top type content v known d at.number is_some_block p.bucket (few_for p.bucket p.candidate) e short named range long p.room behind is_one p.candidate p.none,
+    volume_made node inode top type content v d at.number is_some_block p.bucket (few_for p.bucket p.candidate) e short named range long p.room behind is_one p.candidate p.none,
+    files_made node inode top type content v d at.number is_some_block p.bucket (few_for p.bucket p.candidate) e short named range long p.room behind is_one p.candidate p.none,
   )
   by_place (inr p) =
       subst Said (λ j. record_act (sym p.block_is j) (sym p.offset_is j) (record { number = number; name = p.named j }) behind) (
-        volume_anew node inode top type content v known d at.number is_some_block p.bucket (few_for p.bucket p.candidate) p.record_of p.there number behind short is_one,
-        files_anew node inode top type content v known d at.number is_some_block p.bucket (few_for p.bucket p.candidate) p.record_of p.there number behind short is_one
+        volume_anew node inode top type content v d at.number is_some_block p.bucket (few_for p.bucket p.candidate) p.record_of p.there number behind short is_one,
+        files_anew node inode top type content v d at.number is_some_block p.bucket (few_for p.bucket p.candidate) p.record_of p.there number behind short is_one
             ∙ ap (λ x. with_name (files_of content top) d x (led_to number)) p.named,
       )
 
@@ -184,7 +184,7 @@ module _ (node inode top : ℕ) (type : ℕ → ℕ) (content : ℕ → List ℕ
 
 -- in a state of the store
 
-module _ (T : Types) (fs node inode top : ℕ) (known : IsLayout) (old : StoreState) (here : IsAt T fs node inode top old) (d c : ℕ) (key : List ℕ)
+module _ (T : Types) (fs node inode top : ℕ) (old : StoreState) (here : IsAt T fs node inode top old) (d c : ℕ) (key : List ℕ)
     (at : IsDirectoryAt (readable old fs) top d c key) where
   abbrev content : ℕ → List ℕ
   content = readable old fs
@@ -202,7 +202,7 @@ module _ (T : Types) (fs node inode top : ℕ) (known : IsLayout) (old : StoreSt
   is_directory = subst (λ x. kind_of (fields_of (content x)).mode ≡ Some kind.Directory) (sym at.block) at.directory
 
   few_of : (name : List ℕ) (k : ℕ) → Contains (candidates (name_hash key name)) k → k ≤ leaf_count
-  few_of name k has = candidates_few known.high (name_hash key name) k has
+  few_of name k has = candidates_few (name_hash key name) k has
 
   module _ (new : StoreState) (name : List ℕ) (number : ℕ) (short : number < 2 ^ 32) (named : IsTrue (is_name name)) (range : All (λ b. b < 256) name)
       (long : length name < 256) (behind : Option ℕ) (block offset : ℕ) (place : IsPlace (readable old fs) key c name block offset)
@@ -211,7 +211,7 @@ module _ (T : Types) (fs node inode top : ℕ) (known : IsLayout) (old : StoreSt
     made_act = record_act block offset (record { number = number; name = name }) behind
 
     said : IsVolume node inode (kinds old fs) (written made_act content) top × (files_of (written made_act content) top ≡ with_name (files_of content top) d name (led_to number))
-    said = placed_so node inode top (kinds old fs) content v known d c key at name number short named range long behind block offset place
+    said = placed_so node inode top (kinds old fs) content v d c key at name number short named range long behind block offset place
 
     pub placed_here : IsAt T fs node inode top new
     placed_here = record {
@@ -241,7 +241,7 @@ module _ (T : Types) (fs node inode top : ℕ) (known : IsLayout) (old : StoreSt
 
     whole : Whole
     whole =
-        let r = rewritten_so node inode top (kinds old fs) content v known d at.number some k few is_directory full' in
+        let r = rewritten_so node inode top (kinds old fs) content v d at.number some k few is_directory full' in
         (subst (λ m. IsVolume node inode (kinds old fs) m top) (sym reads) r.0, ap (λ m. files_of m top) reads ∙ r.1)
 
     pub rewritten_here : IsAt T fs node inode top new
@@ -259,23 +259,23 @@ module _ (T : Types) (fs node inode top : ℕ) (known : IsLayout) (old : StoreSt
     bytes = rewritten (bucket_of content c' k)
 
     reads' : readable new fs ≡ written (patch_act (bucket_block content c' k) (one_patch (bucket_start k + 0) bytes) None) content
-    reads' = reads ∙ ap (λ a. written a content) (sym (act_is node inode top (kinds old fs) content v known d at.number some k few is_directory full'))
+    reads' = reads ∙ ap (λ a. written a content) (sym (act_is node inode top (kinds old fs) content v d at.number some k few is_directory full'))
 
     keeps : SamePointers node inode (kinds old fs) content (readable new fs)
-    keeps = subst (SamePointers node inode (kinds old fs) content) (sym reads') (put_in node inode top (kinds old fs) content v known d at.number some k few is_directory full').keeps
+    keeps = subst (SamePointers node inode (kinds old fs) content) (sym reads') (put_in node inode top (kinds old fs) content v d at.number some k few is_directory full').keeps
 
     changed : IsChangedAt (bucket_block content c' k) content (readable new fs)
-    changed = subst (IsChangedAt (bucket_block content c' k) content) (sym reads') (put_in node inode top (kinds old fs) content v known d at.number some k few is_directory full').changed
+    changed = subst (IsChangedAt (bucket_block content c' k) content) (sym reads') (put_in node inode top (kinds old fs) content v d at.number some k few is_directory full').changed
 
     pub rewritten_directory : IsDirectoryAt (readable new fs) top d c key
     rewritten_directory =
-        let p = put_in node inode top (kinds old fs) content v known d at.number some k few is_directory full' in
+        let p = put_in node inode top (kinds old fs) content v d at.number some k few is_directory full' in
         let fields : fields_of (readable new fs c') ≡ fields_of (content c') = subst (λ m. fields_of (m c') ≡ fields_of (content c')) (sym reads') p.fields in
         record {
           number = at.number;
           there = at.there;
           block = numbered_same node inode top (kinds old fs) content (readable new fs) v.typed keeps d ∙ at.block;
-          key_is = key_stays node inode top (kinds old fs) content (readable new fs) v.types.0 v.typed v.apart keeps known.paths_once d (bucket_block content c' k) at.number p.some p.part changed v.root
+          key_is = key_stays node inode top (kinds old fs) content (readable new fs) v.types.0 v.typed v.apart keeps d (bucket_block content c' k) at.number p.some p.part changed v.root
               ∙ at.key_is;
           directory = subst (λ x. kind_of (fields_of (readable new fs x)).mode ≡ Some kind.Directory) at.block (ap (λ g. kind_of g.mode) fields ∙ is_directory);
         }
@@ -285,10 +285,10 @@ module _ (T : Types) (fs node inode top : ℕ) (known : IsLayout) (old : StoreSt
 
     pub rewritten_inode : (m : ℕ) → m ≢ d → m ≢ 0 → block_numbered (readable old fs) top m ≢ 0 → IsKeptInode (readable old fs) (readable new fs) top m
     rewritten_inode m ne m_some there =
-        let p = put_in node inode top (kinds old fs) content v known d at.number some k few is_directory full' in
+        let p = put_in node inode top (kinds old fs) content v d at.number some k few is_directory full' in
         record {
           block = numbered_same node inode top (kinds old fs) content (readable new fs) v.typed keeps m;
-          alike = other_alike node inode top (kinds old fs) content (readable new fs) v.types.0 v.typed v.apart keeps known.paths_once d (bucket_block content c' k) at.number p.some p.part changed m ne
+          alike = other_alike node inode top (kinds old fs) content (readable new fs) v.types.0 v.typed v.apart keeps d (bucket_block content c' k) at.number p.some p.part changed m ne
               m_some there;
           ways = λ l os way. way_same node inode top (kinds old fs) content (readable new fs) v.typed keeps m l os way;
         }
@@ -301,7 +301,7 @@ module _ (T : Types) (fs node inode top : ℕ) (known : IsLayout) (old : StoreSt
         apart_of (inl z) same =
             inode_other node inode top (kinds old fs) content v x is d some (sym (ap (λ t. if t then c' else leaf_block content c' (k - 1)) (eq-eqb k 0 z)) ∙ same)
         apart_of (inr other) same =
-            let p = put_in node inode top (kinds old fs) content v known d at.number some k few is_directory full' in
+            let p = put_in node inode top (kinds old fs) content v d at.number some k few is_directory full' in
             let is_leaf : bucket_block content c' k ≡ leaf_block content c' (k - 1) = ap (λ t. if t then c' else leaf_block content c' (k - 1)) (ne_eqb k 0 other) in
             way_other node inode top (kinds old fs) content v x is d 0 (steps (k - 1)) (steps_way (k - 1)) (λ z. p.some (is_leaf ∙ z)) (sym is_leaf ∙ same)
 
@@ -311,7 +311,7 @@ module _ (T : Types) (fs node inode top : ℕ) (known : IsLayout) (old : StoreSt
         by : (b : Bool) → has_name (bucket_entries (readable new fs) c j) name ≡ b → has_name (bucket_entries (readable new fs) c j) name ≡ false
         by true h =
             let there : IsTrue (has_name (bucket_entries content c' j) name) =
-            fewer node inode top (kinds old fs) content v known d at.number some k few is_directory full' j name few'
+            fewer node inode top (kinds old fs) content v d at.number some k few is_directory full' j name few'
             (subst (λ m. IsTrue (has_name (bucket_entries m c' j) name)) reads' (subst (λ x. IsTrue (has_name (bucket_entries (readable new fs) x j) name)) (sym at.block) h)) in
             absurd (true≢false (sym (subst (λ x. IsTrue (has_name (bucket_entries content x j) name)) at.block there) ∙ lacks))
         by false h = h
@@ -320,15 +320,15 @@ module _ (T : Types) (fs node inode top : ℕ) (known : IsLayout) (old : StoreSt
         (free : AreFree (readable old fs) key c name) where
       bucket_is : bucket_of (readable new fs) c k ≡ put (bucket_of content c k) 0 (rewritten (bucket_of content c k))
       bucket_is = subst (λ x. bucket_of (readable new fs) x k ≡ put (bucket_of content x k) 0 (rewritten (bucket_of content x k))) at.block
-          (subst (λ m. bucket_of m c' k ≡ put (bucket_of content c' k) 0 bytes) (sym reads') (put_in node inode top (kinds old fs) content v known d at.number some k few is_directory full').bucket)
+          (subst (λ m. bucket_of m c' k ≡ put (bucket_of content c' k) 0 bytes) (sym reads') (put_in node inode top (kinds old fs) content v d at.number some k few is_directory full').bucket)
 
       live_now : entries_of (bucket_of (readable new fs) c k) ≡ live_entries (bucket_of content c k)
       live_now = subst (λ x. entries_of (bucket_of (readable new fs) x k) ≡ live_entries (bucket_of content x k)) at.block
-          (subst (λ m. entries_of (bucket_of m c' k) ≡ live_entries (bucket_of content c' k)) (sym reads') (new_is node inode top (kinds old fs) content v known d at.number some k few is_directory full'))
+          (subst (λ m. entries_of (bucket_of m c' k) ≡ live_entries (bucket_of content c' k)) (sym reads') (new_is node inode top (kinds old fs) content v d at.number some k few is_directory full'))
 
       same_long : length (bucket_of (readable new fs) c k) ≡ length (bucket_of content c k)
       same_long = ap length bucket_is ∙ length_put (bucket_of content c k) (rewritten (bucket_of content c k)) 0
-          (let l = length-rewritten (bucket_of content c k) in let w = known.within (bucket_of content c k) in omega arith)
+          (let l = length-rewritten (bucket_of content c k) in let w = ends_within (bucket_of content c k) in omega arith)
 
       pub rewritten_behind : IsBehind (readable new fs) key c name (bucket_block (readable old fs) c k)
           (bucket_start k + (length (bucket_of (readable old fs) c k) - room_without (bucket_of (readable old fs) c k)))
@@ -336,7 +336,7 @@ module _ (T : Types) (fs node inode top : ℕ) (known : IsLayout) (old : StoreSt
           let live : ℕ = total_length (live_entries (bucket_of content c k)) in
           let ends : end_of (bucket_of (readable new fs) c k) ≡ live = ap total_length live_now in
           let low : live ≤ end_of (bucket_of content c k) = live_within (entries_of (bucket_of content c k)) in
-          let within = known.within (bucket_of content c k) in
+          let within = ends_within (bucket_of content c k) in
           let long = same_long in
           let room : room_behind (bucket_of (readable new fs) c k) ≡ room_without (bucket_of content c k) = (λ j. long j - ends j) in
           let end : length (bucket_of content c k) - (length (bucket_of content c k) - live) ≡ live = omega arith in

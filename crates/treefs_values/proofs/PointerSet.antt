@@ -5,13 +5,12 @@ use Rattle.std.specs.Int.{to_le_bytes, w32}
 use Rattle.std.proofs.lemmas.Bool.{and_parts, cases_eq, cases_lt, leb-true, ne_eqb, or_cases}
 use Rattle.std.proofs.lemmas.List.{length-drop, take_all}
 use Rattle.std.proofs.lemmas.Nat.{from_le_bytes-to_le_bytes_4}
-use Rattle.xn_model.specs.Calls.{patched}
 use Rattle.xn_model.specs.Lists.{put}
 use Rattle.xn_model.specs.Root.{word_at}
 use Rattle.ffs_model.proofs.ForCallers.{bytes_apart, word_apart, word_within}
 use Rattle.treefs_format.specs.Fields.{fields_of}
 use Rattle.treefs_format.specs.Inodes.{content_of}
-use Rattle.treefs_format.specs.Nodes.{pointers_patch}
+use Rattle.treefs_format.proofs.ForCallers.{pointers_others}
 use Rattle.treefs_model.specs.Acts.{Act, attach_act}
 use Rattle.treefs_model.specs.Reading.{pointed}
 use Rattle.treefs_model.specs.Trees.{has_pointer, is_inode_offset, is_node_offset}
@@ -107,23 +106,25 @@ module _ (node inode : ℕ) (type : ℕ → ℕ) (old : ℕ → List ℕ) (holde
       ∙ (ap (λ m. take 384 (drop 128 m)) here
       ∙ (bytes_apart (old holder) offset bytes fits 384 128 (inr (omega arith)) ∙ take_all 384 (drop 128 (old holder)) (omega arith)))
 
-  module _ (kept : (m blocks : List ℕ) (i : ℕ) → length m ≡ 512 → i + length blocks ≤ 20 → fields_of (patched m (pointers_patch (48 + 4 * i) blocks ∷ [])) ≡ fields_of m) where
-    fields : type holder ≡ inode → fields_of (new holder) ≡ fields_of (old holder)
-    fields is =
-        let at_inode = inode_offset node inode (type holder) offset other is has in
-        let low = at_inode.0 in
-        let high = at_inode.1 in
-        let whole_word = at.1 in
-        let same : 48 + 4 * ((offset - 48) / 4) ≡ offset = omega arith in
-        ap fields_of here ∙ subst (λ x. fields_of (put (old holder) x bytes) ≡ fields_of (old holder)) same
-        (kept (old holder) (b ∷ []) ((offset - 48) / 4) whole.0 (omega arith))
+  fields : type holder ≡ inode → fields_of (new holder) ≡ fields_of (old holder)
+  fields is =
+      let at_inode = inode_offset node inode (type holder) offset other is has in
+      let low = at_inode.0 in
+      let high = at_inode.1 in
+      let whole_word = at.1 in
+      let same : 48 + 4 * ((offset - 48) / 4) ≡ offset = omega arith in
+      ap fields_of here ∙ subst (λ x. fields_of (put (old holder) x bytes) ≡ fields_of (old holder)) same
+      (pointers_others (old holder) (b ∷ []) ((offset - 48) / 4) whole.0 (omega arith)).0
 
-    pub pointer_set : IsPointerSet node inode type old new holder offset b
-    pointer_set = record {
-      changed = λ c ne. written_other act old c ne;
-      was = none;
-      now = now;
-      others = others;
-      fields = fields;
-      contents = contents;
-    }
+  pub pointer_set : IsPointerSet node inode type old new holder offset b
+  pointer_set = record {
+    changed = λ c ne. written_other act old c ne;
+    was = none;
+    now = now;
+    others = others;
+    fields = fields;
+    contents = contents;
+  }
+
+  pub pointer_attached : IsPointerSet node inode type old new holder offset b × IsWholeBlock (new holder)
+  pointer_attached = (pointer_set, holder_whole)

@@ -8,6 +8,7 @@ use Rattle.xn_model.specs.Lists.{put}
 use Rattle.treefs_format.specs.Fields.{fields_of}
 use Rattle.treefs_format.specs.Inodes.{content_of, pointers_of}
 use Rattle.treefs_format.specs.Paths.{leaf_count}
+use Rattle.treefs_format.proofs.ForCallers.{content_others, content_written}
 use Rattle.treefs_model.specs.Acts.{Act, one_patch, patch_act}
 use Rattle.treefs_model.specs.Reading.{bucket_of, leaf_block}
 use Rattle.treefs_lookup.specs.Buckets.{bucket_block, bucket_start}
@@ -19,7 +20,6 @@ use Rattle.treefs_values.proofs.Apart.{leaf_no_inode, leaves_apart}
 use Rattle.treefs_values.proofs.Alike.{in_leaf}
 use Rattle.treefs_values.proofs.Ways.{leaf_same}
 use Rattle.treefs_values.proofs.Keeping.{keeps_data, keeps_inode}
-use Rattle.treefs_values.specs.KnownLayout.{IsLayout}
 
 -- Bytes
 
@@ -46,7 +46,7 @@ written_here act content b is = ap (λ t. if t then patched (content b) act.edit
 pub written_other : (act : Act) (content : ℕ → List ℕ) (b : ℕ) → b ≢ act.block → written act content b ≡ content b
 written_other act content b ne = ap (λ t. if t then patched (content b) act.edit.patches else content b) (ne_eqb b act.block ne)
 
-module _ (node inode top : ℕ) (type : ℕ → ℕ) (old : ℕ → List ℕ) (v : IsVolume node inode type old top) (f : IsLayout)
+module _ (node inode top : ℕ) (type : ℕ → ℕ) (old : ℕ → List ℕ) (v : IsVolume node inode type old top)
     (n : ℕ) (number : n ≢ 0) (there : block_numbered old top n ≢ 0) (bytes : List ℕ) (range : All (λ b. b < 256) bytes) (at : ℕ) (behind : Option ℕ) where
   abbrev c : ℕ
   c = block_numbered old top n
@@ -100,7 +100,7 @@ module _ (node inode top : ℕ) (type : ℕ → ℕ) (old : ℕ → List ℕ) (v
       let rest = length-drop 128 m in
       let few : at + length bytes ≤ 384 = omega arith in
       let new : after 0 c ≡ patched m (one_patch (128 + at) bytes) = written_here (put_act 0) old c refl in
-      let stay = f.content_others m bytes at was.0 few in
+      let stay = content_others m bytes at was.0 few in
       let changed = λ (x : ℕ) (ne : x ≢ c). written_other (put_act 0) old x ne in
       let keeps = keeps_inode node inode type c old (after 0) changed v.types.0 is_inode (ap pointers_of new ∙ stay.1) in
       record {
@@ -109,7 +109,7 @@ module _ (node inode top : ℕ) (type : ℕ → ℕ) (old : ℕ → List ℕ) (v
         changed = changed;
         keeps = keeps;
         fields = ap fields_of new ∙ stay.0;
-        bucket = ap content_of new ∙ f.content_written m bytes at was.0 few;
+        bucket = ap content_of new ∙ content_written m bytes at was.0 few;
         others = λ j few' ne. leaf_stays (after 0) j ne keeps
             (λ leaf_some. changed (leaf j) (leaf_no_inode node inode top type old v.types.0 v.typed v.apart n n (j - 1) number leaf_some));
         is_block = subst IsWholeBlock (sym new) (block_put m bytes (128 + at) was range (omega arith));
@@ -147,7 +147,7 @@ module _ (node inode top : ℕ) (type : ℕ → ℕ) (old : ℕ → List ℕ) (v
           others = λ j few' ne. elim (cases_eq j 0) [
             | inl z ↦ ap (bucket_of (after k) c) z ∙ (ap content_of (changed c no_inode) ∙ sym (ap (bucket_of old c) z))
             | inr j_some ↦ leaf_stays (after k) j j_some keeps (λ leaf_some. changed (leaf j) (λ same.
-                let e = leaves_apart node inode top type old v.types.0 v.typed v.apart f.paths_once n n (j - 1) (k - 1) (omega arith) (omega arith) leaf_some (same ∙ block_x) in
+                let e = leaves_apart node inode top type old v.types.0 v.typed v.apart n n (j - 1) (k - 1) (omega arith) (omega arith) leaf_some (same ∙ block_x) in
                 let e' : j - 1 ≡ k - 1 = e.1 in
                 ne (omega arith)))
           ];

@@ -15,6 +15,7 @@ use Rattle.treefs_format.specs.Records.{Entry, end_of, entries_of, entry_bytes, 
 use Rattle.treefs_format.specs.declared.kind.Kind.TheVariants as kind
 use Rattle.treefs_format.proofs.Made.{bucket_of as bucket_parts, length-rewritten, rewritten_read, rewritten_whole}
 use Rattle.treefs_format.proofs.Parsed.{IsByte}
+use Rattle.treefs_format.proofs.ForCallers.{ends_within}
 use Rattle.treefs_model.specs.Acts.{Act, one_patch, patch_act}
 use Rattle.treefs_model.specs.Files.{Directory}
 use Rattle.treefs_model.specs.Reading.{bucket_of, files_of, inode_with, key_in, number_of}
@@ -22,7 +23,6 @@ use Rattle.treefs_model.specs.Trees.{has_name, names_once}
 use Rattle.treefs_lookup.specs.Buckets.{bucket_block, bucket_start}
 use Rattle.treefs_edits.specs.Kinds.{rewritten_act}
 use Rattle.treefs_edits.specs.Written.{written}
-use Rattle.treefs_values.specs.KnownLayout.{IsLayout}
 use Rattle.treefs_values.specs.Names.{HasNamesOnce, bucket_entries, first_number, first_number_in}
 use Rattle.treefs_values.specs.Volumes.{IsDirectory, IsVolume}
 use Rattle.treefs_values.specs.Ways.{block_numbered}
@@ -107,7 +107,7 @@ live_bytes (e ∷ es) all = by (is_live e) refl (live_bytes es (all_back (entry_
         (All-append IsByte (entry_bytes e) (joined (filter (λ e. is_live e) es)) (all_front (entry_bytes e) (joined es) all) rest)
     by false h rest = subst (λ b. All IsByte (joined (cond b (e ∷ filter (λ e. is_live e) es) (filter (λ e. is_live e) es)))) (sym h) rest
 
-module _ (node inode top : ℕ) (type : ℕ → ℕ) (old : ℕ → List ℕ) (v : IsVolume node inode type old top) (f : IsLayout)
+module _ (node inode top : ℕ) (type : ℕ → ℕ) (old : ℕ → List ℕ) (v : IsVolume node inode type old top)
     (n : ℕ) (number : n ≢ 0) (there : block_numbered old top n ≢ 0) (k : ℕ) (few : k ≤ leaf_count)
     (directory : kind_of (fields_of (old (block_numbered old top n))).mode ≡ Some kind.Directory)
     (some : 0 < end_of (bucket_of old (block_numbered old top n) k)) where
@@ -127,7 +127,7 @@ module _ (node inode top : ℕ) (type : ℕ → ℕ) (old : ℕ → List ℕ) (v
   was = v.directories n number there directory
 
   range : All (λ b. b < 256) (bucket_of old c k)
-  range = bucket_bytes node inode top type old v f n number there k few
+  range = bucket_bytes node inode top type old v n number there k few
 
   long : length bytes ≡ end_of (bucket_of old c k)
   long = length-rewritten (bucket_of old c k)
@@ -139,9 +139,9 @@ module _ (node inode top : ℕ) (type : ℕ → ℕ) (old : ℕ → List ℕ) (v
       (all_front (joined (entries_of (bucket_of old c k))) _ (subst (All IsByte) p.whole range)) in
       All-append IsByte (joined (live_entries (bucket_of old c k))) _ live (All-replicate IsByte _ 0 (omega arith))
 
-  pub put_in : IsPut node inode top type old v f n number there bytes small 0 None k
-  put_in = is_put node inode top type old v f n number there bytes small 0 None (let l = long in omega arith) k few
-      (let l = long in let within = f.within (bucket_of old c k) in omega arith)
+  pub put_in : IsPut node inode top type old v n number there bytes small 0 None k
+  put_in = is_put node inode top type old v n number there bytes small 0 None (let l = long in omega arith) k few
+      (let l = long in let within = ends_within (bucket_of old c k) in omega arith)
 
   pub new_is : bucket_entries new c k ≡ live_entries (bucket_of old c k)
   new_is = ap entries_of put_in.bucket ∙ rewritten_read (bucket_of old c k) range
@@ -182,7 +182,7 @@ module _ (node inode top : ℕ) (type : ℕ → ℕ) (old : ℕ → List ℕ) (v
   }
 
   pub volume_rewritten : IsVolume node inode type new top
-  volume_rewritten = still_volume node inode top type old new v f.paths_once n (bucket_block old c k) number put_in.some put_in.part put_in.changed put_in.keeps put_in.is_block
+  volume_rewritten = still_volume node inode top type old new v n (bucket_block old c k) number put_in.some put_in.part put_in.changed put_in.keeps put_in.is_block
       (λ directory'. directory_rewritten)
 
   -- the same numbers
@@ -202,21 +202,21 @@ module _ (node inode top : ℕ) (type : ℕ → ℕ) (old : ℕ → List ℕ) (v
   numbers_same : number_of new key c ≡ number_of old key c
   numbers_same = fun_ext (λ name.
       let ks = candidates (name_hash key name) in
-      among_numbers new c name ks ∙ (in_buckets name ks (candidates_few f.high (name_hash key name)) ∙ sym (among_numbers old c name ks)))
+      among_numbers new c name ks ∙ (in_buckets name ks (candidates_few (name_hash key name)) ∙ sym (among_numbers old c name ks)))
 
   own : files_of new top n ≡ files_of old top n
   own =
-      own_read node inode top type old new v.types.0 v.typed v.apart put_in.keeps f.paths_once n (bucket_block old c k) number put_in.some put_in.part put_in.changed v.root
+      own_read node inode top type old new v.types.0 v.typed v.apart put_in.keeps n (bucket_block old c k) number put_in.some put_in.part put_in.changed v.root
       ∙ (directory_read new key c (fields_of (old c)) put_in.fields directory
       ∙ (ap (λ g. Some (inode_with (fields_of (old c)) (Directory (fields_of (old c)).parent g))) numbers_same
-      ∙ sym (own_was node inode top type old new v.types.0 v.typed v.apart put_in.keeps f.paths_once n (bucket_block old c k) number put_in.some put_in.part put_in.changed
+      ∙ sym (own_was node inode top type old new v.types.0 v.typed v.apart put_in.keeps n (bucket_block old c k) number put_in.some put_in.part put_in.changed
       ∙ directory_read old key c (fields_of (old c)) refl directory)))
 
   pub files_rewritten : files_of new top ≡ files_of old top
   files_rewritten = fun_ext (λ m. elim (cases_eq m n) [
     | inl same ↦ ap (files_of new top) same ∙ (own ∙ sym (ap (files_of old top) same))
     | inr ne ↦
-        others_stay node inode top type old new v.types.0 v.typed v.apart put_in.keeps f.paths_once n (bucket_block old c k) number put_in.some put_in.part put_in.changed v.root m ne
+        others_stay node inode top type old new v.types.0 v.typed v.apart put_in.keeps n (bucket_block old c k) number put_in.some put_in.part put_in.changed v.root m ne
   ])
 
   -- as the act is made

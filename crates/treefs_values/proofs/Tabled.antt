@@ -1,5 +1,5 @@
 -- The edits by which a path is made: of the table to a new inode, and of a directory to a new leaf.
-use Rattle.std.proofs.Common.{◌≡◌, ◌≢◌, ◌⊎◌, ℕ, zero, suc, ◌+◌, ◌-◌, ◌<◌, ◌≤◌, ◌%◌, List, [], ◌∷◌, ◌++◌, length, take, None, Some, Ok, refl, sym, ◌∙◌, ap, inl, inr, arith, subst, if◌then◌else◌}
+use Rattle.std.proofs.Common.{◌≡◌, ◌≢◌, ◌⊎◌, ℕ, suc, ◌+◌, ◌-◌, ◌<◌, ◌≤◌, ◌%◌, List, [], ◌∷◌, ◌++◌, length, take, None, Some, Ok, refl, sym, ◌∙◌, ap, inl, inr, arith, subst}
 use Rattle.std.specs.Prelude.{All, slice_index}
 use Rattle.std.proofs.lemmas.List.{get_or_at, take_at}
 use Rattle.xn_model.specs.Types.{Types}
@@ -20,7 +20,6 @@ use Rattle.treefs_lookup.specs.Walks.{reach}
 use Rattle.treefs_edits.specs.Missing.{last_or_owner, missing_path, node_acts, node_starts, path_acts, path_starts}
 use Rattle.treefs_values.specs.Attached.{new_content}
 use Rattle.treefs_values.specs.Kinds.{kinds}
-use Rattle.treefs_values.specs.KnownLayout.{IsLayout}
 use Rattle.treefs_values.specs.Ways.{IsWay, block_numbered}
 use Rattle.treefs_values.proofs.Chains.{IsChain, IsNext, blocks_in, chain_starts, chained, last_bytes, reached, way_stands}
 use Rattle.treefs_values.proofs.Numbering.{numbered_files, numbered_here, numbered_inodes, numbered_keeps, numbered_was}
@@ -31,7 +30,7 @@ use Rattle.treefs_values.proofs.Standing.{KeepsInodes, KeepsNames, inodes_then}
 use Rattle.treefs_values.proofs.Walks.{AreOf, IsAt, edit_is}
 use Rattle.treefs_values.proofs.Ways.{steps_way}
 
-module _ (T : Types) (fs node inode top : ℕ) (few : fs < 32) (tree : IsTree T node inode) (known : IsLayout) where
+module _ (T : Types) (fs node inode top : ℕ) (few : fs < 32) (tree : IsTree T node inode) where
   abbrev IsHere : StoreState → Type 0
   IsHere s = IsAt T fs node inode top s
 
@@ -49,7 +48,7 @@ module _ (T : Types) (fs node inode top : ℕ) (few : fs < 32) (tree : IsTree T 
     way_up o q [] way = way.3
     way_up o q (p ∷ os) way = way_up p (o ∷ q) os way
 
-    pub node_chain : (q os : List ℕ) → IsWay (l0 ∷ onto q os) 0 → IsChain T fs node inode top few tree known m IsLater later_stands q (node_links node inode os)
+    pub node_chain : (q os : List ℕ) → IsWay (l0 ∷ onto q os) 0 → IsChain T fs node inode top few tree m IsLater later_stands q (node_links node inode os)
     node_chain q [] way = tt
     node_chain q (o ∷ os) way =
         let first = way_first o 1 q os (way_up o q os way) in
@@ -57,7 +56,7 @@ module _ (T : Types) (fs node inode top : ℕ) (few : fs < 32) (tree : IsTree T 
         (first.0, first.1, (λ j e. refl), (λ e. absurd (omega (arith, e))), node_chain (o ∷ q) os way)
 
     -- the first of its pointers, or else the inode's
-    pub next_in : (os : List ℕ) (o : ℕ) → IsNext T fs node inode top few tree known m IsLater later_stands (node_links node inode os) o →
+    pub next_in : (os : List ℕ) (o : ℕ) → IsNext T fs node inode top few tree m IsLater later_stands (node_links node inode os) o →
         ((os ≡ []) × (o ≡ l0)) ⊎ ((rest : List ℕ) × (os ≡ o ∷ rest))
     next_in [] o next = inl (refl, next)
     next_in (x ∷ os) o next = inr (os, ap (λ y. y ∷ os) (sym next))
@@ -104,7 +103,7 @@ module _ (T : Types) (fs node inode top : ℕ) (few : fs < 32) (tree : IsTree T 
           let stands = way_stands l0 0 (onto q nodes) way in
           let links = node_links node inode nodes in
           let last_act : Act = attach_act (last_or_owner owner (blocks_in xs)) l0 inode (y.block ∷ []) (Some y.block) in
-          let c = chained T fs node inode top few tree known 0 (IsLater 0 l0 stands) (later_stands 0 l0 stands) links xs q owner (last_act ∷ rest) old new here p.holder p.there
+          let c = chained T fs node inode top few tree 0 (IsLater 0 l0 stands) (later_stands 0 l0 stands) links xs q owner (last_act ∷ rest) old new here p.holder p.there
           (node_chain 0 l0 stands q nodes way)
           (subst (λ starts. AreOf T fs node inode top few tree starts xs) (node_starts_are node inode nodes) of') news
           (λ o next. elim (next_in 0 l0 stands nodes o next) [
@@ -124,20 +123,20 @@ module _ (T : Types) (fs node inode top : ℕ) (few : fs < 32) (tree : IsTree T 
                 let none = c.zero l0 refl in
                 record {
                   middle = s1;
-                  tabled = numbered_here T fs node inode top few tree known c.middle s1 c.here n number n_few l0 q' p.steps_are holder holder_is c.there none y y' y_type (Some y.block) edit
+                  tabled = numbered_here T fs node inode top few tree c.middle s1 c.here n number n_few l0 q' p.steps_are holder holder_is c.there none y y' y_type (Some y.block) edit
                       fields head y_bytes range short size k kind_is empty;
                   ran = r.3;
                   was = ap (λ f. f n) (sym c.files)
-                      ∙ numbered_was T fs node inode top few tree known c.middle s1 c.here n number n_few l0 q' p.steps_are holder holder_is c.there none y y' y_type (Some y.block) edit
+                      ∙ numbered_was T fs node inode top few tree c.middle s1 c.here n number n_few l0 q' p.steps_are holder holder_is c.there none y y' y_type (Some y.block) edit
                       fields head y_bytes range short size k kind_is empty;
-                  files = numbered_files T fs node inode top few tree known c.middle s1 c.here n number n_few l0 q' p.steps_are holder holder_is c.there none y y' y_type (Some y.block) edit
+                  files = numbered_files T fs node inode top few tree c.middle s1 c.here n number n_few l0 q' p.steps_are holder holder_is c.there none y y' y_type (Some y.block) edit
                       fields head y_bytes range short size k kind_is empty
                       ∙ ap (λ f. with_inode f n (Some (inode_with fields (new_content k fields.parent head)))) c.files;
                   keeps = λ x is apart ne.
-                      numbered_keeps T fs node inode top few tree known c.middle s1 c.here n number n_few l0 q' p.steps_are holder holder_is c.there none y y' y_type (Some y.block) edit
+                      numbered_keeps T fs node inode top few tree c.middle s1 c.here n number n_few l0 q' p.steps_are holder holder_is c.there none y y' y_type (Some y.block) edit
                       fields head y_bytes range short size k kind_is empty x (c.keeps x is apart) ne;
                   inodes = inodes_then (readable old fs) (readable c.middle fs) (readable s1 fs) top (c.inodes refl)
-                      (numbered_inodes T fs node inode top few tree known c.middle s1 c.here n number n_few l0 q' p.steps_are holder holder_is c.there none y y' y_type (Some y.block) edit
+                      (numbered_inodes T fs node inode top few tree c.middle s1 c.here n number n_few l0 q' p.steps_are holder holder_is c.there none y y' y_type (Some y.block) edit
                       fields head y_bytes range short size k kind_is empty);
                 }
           ]
@@ -171,7 +170,7 @@ module _ (T : Types) (fs node inode top : ℕ) (few : fs < 32) (tree : IsTree T 
     abbrev leaf_owner : ℕ
     leaf_owner = (reach (readable plan fs) c (steps leaf)).block
 
-    leaf_chain : (q os : List ℕ) → IsWay (onto q os) 0 → IsChain T fs node inode top few tree known d None' none_stands q (path_links node os)
+    leaf_chain : (q os : List ℕ) → IsWay (onto q os) 0 → IsChain T fs node inode top few tree d None' none_stands q (path_links node os)
     leaf_chain q [] way = tt
     leaf_chain q (o ∷ []) way = (0, way, (λ j e. absurd (omega (arith, e))), (λ e. (d_some, refl, refl)), tt)
     leaf_chain q (o ∷ p ∷ os) way =
@@ -222,7 +221,7 @@ module _ (T : Types) (fs node inode top : ℕ) (few : fs < 32) (tree : IsTree T 
           let onto_all : onto q all ≡ steps leaf = onto_last q nodes l0 ∙ sym p.steps_are in
           let links = path_links node all in
           let of_links = subst (λ starts. AreOf T fs node inode top few tree starts xs) (path_starts_are node all) of' in
-          let ch = chained T fs node inode top few tree known d None' none_stands links xs q leaf_owner rest old new here
+          let ch = chained T fs node inode top few tree d None' none_stands links xs q leaf_owner rest old new here
           (p.holder ∙ ap (λ b. block_at (readable old fs) b q) (sym block)) p.there
           (leaf_chain q all (subst (λ os. IsWay os 0) (sym onto_all) (steps_way leaf))) of_links news
           (λ o next. first_zero q nodes l0 p o next)
@@ -247,7 +246,7 @@ module _ (T : Types) (fs node inode top : ℕ) (few : fs < 32) (tree : IsTree T 
           onto_last q (o ∷ nodes) l0 = onto_last (o ∷ q) nodes l0
 
           first_zero : (q nodes : List ℕ) (l0 : ℕ) → IsPathTo (readable old fs) (readable plan fs) c c_some ways leaf leaf_few free l0 q nodes → (o : ℕ) →
-              IsNext T fs node inode top few tree known d None' none_stands (path_links node (nodes ++ l0 ∷ [])) o → pointed (readable old fs) leaf_owner o ≡ 0
+              IsNext T fs node inode top few tree d None' none_stands (path_links node (nodes ++ l0 ∷ [])) o → pointed (readable old fs) leaf_owner o ≡ 0
           first_zero q [] l0 p o next = ap (pointed (readable old fs) leaf_owner) next ∙ p.first_zero refl
           first_zero q (x ∷ nodes) l0 p o next = ap (pointed (readable old fs) leaf_owner) next ∙ p.next_zero x nodes refl
 

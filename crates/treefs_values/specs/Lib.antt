@@ -3,7 +3,6 @@ pub mod Parts
 pub mod Names
 pub mod Volumes
 pub mod Values
-pub mod KnownLayout
 pub mod Kinds
 pub mod Bytes
 pub mod Attached

@@ -40,33 +40,10 @@ ghost use Rattle.treefs_values.specs.Begun.{with_block};
 ghost use Rattle.treefs_values.specs.Bytes.{bucket_at, place_in_bucket, with_put};
 ghost use Rattle.treefs_values.specs.Kinds.{kinds};
 ghost use Rattle.treefs_values.specs.Dropped.{AreDropped, AreOverPointers, IsCovered, IsHolderWay, IsLedTo, IsPast, clear_act, with_blocks};
-ghost use Rattle.treefs_values.specs.KnownLayout.{IsLayout};
 ghost use Rattle.treefs_values.specs.Names.{bucket_entries};
 ghost use Rattle.treefs_values.specs.Values.{AreChanges, KeepsBlocks, found_value, inode_with_links, led_to, links_parts};
 ghost use Rattle.treefs_values.specs.Volumes.{IsWholeBlock, IsVolume};
 ghost use Rattle.treefs_values.specs.Ways.{ArePointersApart, IsTyped, IsWay, SamePointers, block_numbered};
-
-use treefs_format::law::{
-    changes_are_made, content_is_written, inode_pointers_are_set, inodes_are_read_back,
-    levels_are_apart, nodes_are_read_back, numbers_are_set, paths_are_leaves, records_are_made,
-    records_stand_in_buckets,
-};
-
-/// The laws of the layout, together.
-pub fn layout_is_known()
-    ensures { IsLayout }
-{
-    content_is_written();
-    levels_are_apart();
-    numbers_are_set();
-    paths_are_leaves();
-    records_are_made();
-    records_stand_in_buckets();
-    changes_are_made();
-    inode_pointers_are_set();
-    inodes_are_read_back();
-    nodes_are_read_back();
-}
 
 /// Where pointers are the same, so are the blocks of inodes, nodes and leaves.
 pub fn ways_stay()
@@ -87,9 +64,7 @@ pub fn places_are_apart()
         ArePointersApart node inode type content top → (n m i j : ℕ) → i < leaf_count → j < leaf_count →
         leaf_block content (block_numbered content top n) i ≢ 0 →
         leaf_block content (block_numbered content top n) i ≡ leaf_block content (block_numbered content top m) j → (n ≡ m) × (i ≡ j) }
-{
-    paths_are_leaves();
-}
+{}
 
 /// Look-ups of inodes and of names answer what the files say, each fault in its order.
 pub fn look_ups_are_values()
@@ -108,9 +83,7 @@ pub fn names_lead_elsewhere()
         let act = number_act (bucket_block content (block_numbered content top n) k) (bucket_start k + r.offset) number behind in
         IsVolume node inode type (written act content) top
         × (files_of (written act content) top ≡ with_name (files_of content top) n r.entry.name (led_to number)) }
-{
-    layout_is_known();
-}
+{}
 
 /// A record is made behind those of a candidate of a name that the directory does not have: the name leads there, and all else is as before.
 pub fn names_are_made()
@@ -125,9 +98,7 @@ pub fn names_are_made()
         let act = record_act (bucket_block content c k) (bucket_start k + end_of (bucket_of content c k)) e behind in
         IsVolume node inode type (written act content) top
         × (files_of (written act content) top ≡ with_name (files_of content top) n e.name (led_to e.number)) }
-{
-    layout_is_known();
-}
+{}
 
 /// A record is made where a dead one of its name stands: the name leads to its number, and all else is as before.
 pub fn names_are_made_anew()
@@ -138,9 +109,7 @@ pub fn names_are_made_anew()
         let act = record_act (bucket_block content c k) (bucket_start k + r.offset) (record { number = number; name = r.entry.name }) behind in
         IsVolume node inode type (written act content) top
         × (files_of (written act content) top ≡ with_name (files_of content top) n r.entry.name (led_to number)) }
-{
-    layout_is_known();
-}
+{}
 
 /// A bucket of a directory is rewritten: it has its live records, in their order, and the files are as before.
 pub fn buckets_are_rewritten()
@@ -150,9 +119,7 @@ pub fn buckets_are_rewritten()
         let act = rewritten_act (bucket_block content c k) (bucket_start k) (bucket_of content c k) in
         IsVolume node inode type (written act content) top × (files_of (written act content) top ≡ files_of content top)
         × (bucket_entries (written act content) c k ≡ live_entries (bucket_of content c k)) }
-{
-    layout_is_known();
-}
+{}
 
 /// Fields of an inode change, but not its size nor its kind: so does its value, and all else is as before.
 pub fn inodes_change()
@@ -163,9 +130,7 @@ pub fn inodes_change()
         ((x : Content) → moved_to was.parent x ≡ x → inode_with now (moved_to now.parent x) ≡ change (inode_with was x)) →
         let act = changes_act (block_numbered content top n) changes behind in
         IsVolume node inode type (written act content) top × (files_of (written act content) top ≡ changed_at (files_of content top) n change) }
-{
-    layout_is_known();
-}
+{}
 
 /// So it is with a name that is found.
 pub fn found_names_lead_elsewhere()
@@ -174,9 +139,7 @@ pub fn found_names_lead_elsewhere()
         entry_found content top d name ≡ Ok slot → number < 2 ^ 32 → let act = number_act slot.block slot.offset number behind in
         IsVolume node inode type (written act content) top
         × (files_of (written act content) top ≡ with_name (files_of content top) d name (led_to number)) }
-{
-    layout_is_known();
-}
+{}
 
 /// A name ends, and then its inode gets other links, and where told other times and another parent.
 pub fn names_end()
@@ -188,9 +151,7 @@ pub fn names_end()
         IsVolume node inode type (all_written acts content) top
         × (files_of (all_written acts content) top ≡ changed_at (with_name (files_of content top) d name None) slot.number (inode_with_links links times
         parent)) }
-{
-    layout_is_known();
-}
+{}
 
 /// Bytes of a file are written that stand together, in the inode or in a leaf that is there: those below its size are read then, and all else is as before.
 pub fn bytes_are_put()
@@ -201,9 +162,7 @@ pub fn bytes_are_put()
         bucket_at first ≤ leaf_count → bucket_block content c (bucket_at first) ≢ 0 →
         let act = patch_act (bucket_block content c (bucket_at first)) (one_patch (bucket_start (bucket_at first) + place_in_bucket first) bytes) behind in
         IsVolume node inode type (written act content) top × (files_of (written act content) top ≡ changed_at (files_of content top) n (with_put first bytes)) }
-{
-    layout_is_known();
-}
+{}
 
 /// The size of a file or a symbolic link changes, with other fields: so many bytes are read then, and all else is as before.
 pub fn sizes_change()
@@ -218,9 +177,7 @@ pub fn sizes_change()
         IsVolume node inode type (written act content) top × (files_of (written act content) top ≡ changed_at (files_of content top) n change) }
     ensures bytes { (content : ℕ → List ℕ) (c size size' : ℕ) → ((p : ℕ) → size ≤ p → p < size' → byte_of content c p ≡ 0) →
         bytes_from content c 0 size' ≡ resized size' (bytes_from content c 0 size) }
-{
-    layout_is_known();
-}
+{}
 
 /// An edit that attaches a block sets one pointer, and changes no other.
 pub fn attached_blocks_are_pointed_to()
@@ -228,9 +185,7 @@ pub fn attached_blocks_are_pointed_to()
         IsWholeBlock (content holder) → IsTrue (has_pointer node inode (type holder) offset) → pointed content holder offset ≡ 0 → block < 2 ^ 32 →
         let new = written (attach_act holder offset ty (block ∷ []) behind) content in
         IsPointerSet node inode type content new holder offset block × IsWholeBlock (new holder) }
-{
-    inode_pointers_are_set();
-}
+{}
 
 /// The pointer of a number that is free comes to lead to an inode, which no number had: the files are as before, and the number has it.
 pub fn inodes_get_numbers()
@@ -241,9 +196,7 @@ pub fn inodes_get_numbers()
         ArePointersApart node inode type new top → IsWholeBlock (new holder) →
         (files_of content top n ≡ None) × IsVolume node inode type new top
         × (files_of new top ≡ with_inode (files_of content top) n (inode_of content (key_in content top) block)) }
-{
-    layout_is_known();
-}
+{}
 
 /// A block with the bytes of a new inode is one of no number, without a tree, and says its fields and the beginning of its content.
 pub fn new_inodes_are_free()
@@ -252,9 +205,7 @@ pub fn new_inodes_are_free()
         (kind ≡ Directory → head ≡ []) → block ≢ 0 → type block ≡ inode →
         IsFreeInode node inode type content key block
         × (inode_of content key block ≡ Some (inode_with fields (new_content kind fields.parent head))) }
-{
-    layout_is_known();
-}
+{}
 
 /// A node without pointers, or a leaf of zeros of an inode, is attached where none stood: the files are as before.
 pub fn empty_blocks_change_no_file()
@@ -263,9 +214,7 @@ pub fn empty_blocks_change_no_file()
         IsPointerSet node inode type content new holder offset block → IsEmptyBlock node inode type content n l block → block ≢ holder →
         ArePointersApart node inode type new top → IsWholeBlock (new holder) →
         IsVolume node inode type new top × (files_of new top ≡ files_of content top) }
-{
-    layout_is_known();
-}
+{}
 
 /// What a file system reads after edits that drop no block: their patches are written, and types stay.
 pub fn edits_are_read()
@@ -306,9 +255,7 @@ pub fn dropped_blocks_are_not_pointed_to()
         All (IsLedTo content holder places) blocks → has_number blocks holder ≡ false →
         let new = with_blocks (written (clear_act holder places blocks behind) content) blocks [] in
         AreDropped node inode type (with_blocks type blocks 0) content new holder places × IsWholeBlock (new holder) }
-{
-    inode_pointers_are_set();
-}
+{}
 
 /// Pointers of the inode of a file or a symbolic link, or of a node of its tree, come to lead nowhere, and the blocks to which they led may not be read any
 /// more; none of them leads on to a byte before the size: the files are as before.
@@ -319,6 +266,4 @@ pub fn dropped_blocks_change_no_file()
         AreDropped node inode type type' content new holder places → IsWholeBlock (new holder) →
         ((o : ℕ) → IsCovered places o → IsPast (fields_of (content c)).size (o ∷ above)) →
         IsVolume node inode type' new top × (files_of new top ≡ files_of content top) }
-{
-    layout_is_known();
-}
+{}

@@ -17,9 +17,11 @@ use Rattle.tree_changes.specs.PathsTold.{TellsPaths}
 use Rattle.tree_changes.specs.Removing.{IsKept, Removes}
 use Rattle.tree_changes.specs.declared.naming.Linking.{Linking}
 use Rattle.tree_changes.specs.declared.setting.Setting.{Setting}
+use Rattle.tree_puts.specs.Lines.{line_of}
+use Rattle.tree_puts.specs.Sources.{PutsAll}
 use Rattle.xnfs_words.specs.declared.word.Word.{Word}
 use Rattle.xnfs_words.specs.declared.word.Word.TheVariants.{Link}
-use Rattle.xnfs_line.specs.Words.{CopiesSources, RemovesPaths, SetsPaths, WordDoes, linking_of}
+use Rattle.xnfs_line.specs.Words.{CopiesSources, PutsPaths, RemovesPaths, SetsPaths, WordDoes, linking_of}
 
 pub link_does : (T : Types) (folder : ℕ) (word : Word) (target path : Bor (List ℕ)) (symbolic : Bool) (linking : Linking) →
     word ≡ Link target path symbolic → linking ≡ linking_of symbolic → (told told' : Told) (old new : StoreState) (volume volume' : Volume)
@@ -59,6 +61,18 @@ pub copies_sources : (T : Types) (folder : ℕ) (goal : List ℕ) (several : Boo
     CopiesSources T folder goal several paths recursive told told' old new volume volume' result
 copies_sources T folder goal several paths false told told' old new volume volume' result does all = does refl
 copies_sources T folder goal several paths true told told' old new volume volume' result does all = all refl
+
+-- the types of the store and the folder that is held stay
+pub puts_paths : (T types : Types) (folder folder' : ℕ) (lines : Bool) (goal : List ℕ) (several : Bool) (sources : List (List ℕ)) (told told' : Told)
+    (old new : StoreState) (volume volume' : Volume) (result : Result (Unit {0}) Fault) → types ≡ T → folder' ≡ folder →
+    PutsAll lines goal several 1048576 sources result (line_of T old folder volume told) (line_of types new folder' volume' told') →
+    PutsPaths T folder goal several sources told told' old new volume volume' result
+puts_paths T types folder folder' lines goal several sources told told' old new volume volume' result types_are folder_is does = (
+  lines,
+  subst (λ (t : Types). PutsAll lines goal several 1048576 sources result (line_of T old folder volume told) (line_of t new folder volume' told')) types_are
+      (subst (λ (n : ℕ). PutsAll lines goal several 1048576 sources result (line_of T old folder volume told) (line_of types new n volume' told'))
+      folder_is does),
+)
 
 -- lazy: of the shell; looks: whether a word only looks
 

@@ -7,6 +7,7 @@
 --     SetsPaths                 what is set at some paths, with all below them or not
 --     RemovesPaths              `rm` of some paths, with all below them or not
 --     CopiesSources             `cp` of some paths, with all below them or not
+--     PutsPaths                 `put` of some paths of the system
 --     NamesDo                   words that give names or take them, or bring files in
 --     WordDoes                  what a word does that changes a volume; of any other, nothing
 --     only_looks, looks         a word only looks; `check` on an open volume, too, which has nothing to mend
@@ -42,6 +43,8 @@ use Rattle.tree_changes.specs.declared.naming.Linking.TheVariants.{Hard, Symboli
 use Rattle.tree_changes.specs.declared.owners.Owners.{Owners}
 use Rattle.tree_changes.specs.declared.setting.Setting.{Setting}
 use Rattle.tree_changes.specs.declared.setting.Setting.TheVariants as setting
+use Rattle.tree_puts.specs.Lines.{line_of}
+use Rattle.tree_puts.specs.Sources.{PutsAll}
 use Rattle.xnfs_words.specs.declared.word.Word.{Word}
 use Rattle.xnfs_words.specs.declared.word.Word.TheVariants.{Cat, ChangeMode, ChangeOwner, Check, Copy, DiskUsage, Find}
 use Rattle.xnfs_words.specs.declared.word.Word.TheVariants.{FreeSpace, Get, Link, List as ListFolders}
@@ -100,9 +103,15 @@ CopiesSources T folder goal several paths false told told' old new volume volume
 CopiesSources T folder goal several paths true told told' old new volume volume' result =
     CopiesTrees T folder goal several paths told told' old new volume volume' result
 
--- what `put` does is not said; a word that only looks does nothing
+-- lines: whether standard input has the lines of a shell; nothing is kept of files with several names before
+abbrev pub PutsPaths : Types → ℕ → List ℕ → Bool → List (List ℕ) → Told → Told → StoreState → StoreState → Volume → Volume → Result (Unit {0}) Fault → Type 0
+PutsPaths T folder goal several sources told told' old new volume volume' result = (lines : Bool)
+    × PutsAll lines goal several 1048576 sources result (line_of T old folder volume told) (line_of T new folder volume' told')
+
+-- a word that only looks does nothing
 abbrev pub NamesDo : Types → ℕ → Word → Told → Told → StoreState → StoreState → Volume → Volume → Result (Unit {0}) Fault → Type 0
-NamesDo T folder (Put sources path) told told' old new volume volume' result = Unit
+NamesDo T folder (Put sources path) told told' old new volume volume' result =
+    PutsPaths T folder path.now (nat_lt 1 (length sources.items)) (map (λ source. source.now) sources.items) told told' old new volume volume' result
 NamesDo T folder (Copy paths to recursive) told told' old new volume volume' result =
     CopiesSources T folder to.now (nat_lt 1 (length paths.items)) (map (λ path. path.now) paths.items) recursive told told' old new volume volume' result
 NamesDo T folder (Move paths to) told told' old new volume volume' result =

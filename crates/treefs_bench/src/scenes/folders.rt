@@ -4,7 +4,7 @@ use crate::files::{mkdir, name_of, put};
 use flush_store::FlushStore;
 use std::alloc::Global;
 use treefs_model::Fault;
-use treefs_session::{Rmdir, Session, Unlink};
+use treefs_session::{Change, Session};
 
 /// The inode of the top directory.
 const TOP: u32 = 1;
@@ -62,13 +62,13 @@ pub fn remove_folder<S: FlushStore + Drop>(
     folder: u32,
 ) -> Result<(), Fault> {
     for number in 0..FILES {
-        let unlink = Unlink {
+        let unlink = Change::Unlink {
             directory: folder,
             name: &name_of(number),
         };
         session.make(alloc, &[], &unlink)?;
     }
-    let rmdir = Rmdir {
+    let rmdir = Change::Rmdir {
         directory: TOP,
         name: &NAME,
     };

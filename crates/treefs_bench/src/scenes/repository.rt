@@ -4,7 +4,7 @@ use crate::files::{mkdir, put};
 use flush_store::FlushStore;
 use std::alloc::Global;
 use treefs_model::Fault;
-use treefs_session::{Rename, Session};
+use treefs_session::{Change, Session};
 
 /// The inode of the top directory.
 const TOP: u32 = 1;
@@ -82,7 +82,7 @@ pub fn make_repository<S: FlushStore + Drop>(
     for (name, new_name, count) in &RENAMED {
         let directory = numbers[1];
         let _number = put(alloc, session, directory, name.as_bytes(), bytes_of(*count))?;
-        let rename = Rename {
+        let rename = Change::Rename {
             directory,
             name: name.as_bytes(),
             new_directory: directory,

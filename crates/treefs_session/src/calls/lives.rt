@@ -1,10 +1,8 @@
 // Calls that free what no name leads to, and those that write all.
 
 ghost use Rattle.std.specs.Prelude.{◌≡◌};
-ghost use Rattle.treefs.specs.Reaping.{ReapDoes};
 ghost use Rattle.treefs.specs.Trimming.{GiveUpDoes};
-ghost use Rattle.treefs_mounts.specs.Closing.{CloseDoes};
-ghost use Rattle.treefs_mounts.specs.Flushing.{FlushesVolume};
+ghost use Rattle.treefs_session.specs.Changes.{UpkeepDoes};
 
 use crate::call::Call;
 use flush_store::FlushStore;
@@ -13,16 +11,21 @@ use treefs::Volume;
 use treefs_model::Fault;
 use treefs_mounts::{close, flush_volume};
 
-/// Frees the inodes of some numbers that have no links: `reap` of a volume.
+/// What a session does for itself.
 #[derive(Clone, Copy, Debug)]
-pub struct Reap<'a> {
-    pub numbers: &'a [u32],
+pub enum Upkeep<'a> {
+    /// Frees the inodes of some numbers that have no links: `reap` of a volume.
+    Reap { numbers: &'a [u32] },
+    /// Writes the times that no edit has written yet, and then all that is pending in the store.
+    Flush,
+    /// Closes a volume.
+    Close,
 }
 
-impl Call for Reap<'_> {
+impl Call for Upkeep<'_> {
     type Answer = ();
 
-    ghost does = { λ c T old new volume volume' result. ReapDoes T old new volume volume' c.numbers.now result };
+    ghost does = { λ c T old new volume volume' result. UpkeepDoes c T old new volume volume' result };
 
     fn make<S: FlushStore>(
         &self,
@@ -30,7 +33,11 @@ impl Call for Reap<'_> {
         store: &mut S,
         volume: &mut Volume,
     ) -> Result<(), Fault> {
-        volume.reap(alloc, store, self.numbers)
+        match *self {
+            Upkeep::Reap { numbers } => volume.reap(alloc, store, numbers),
+            Upkeep::Flush => flush_volume(alloc, store, volume),
+            Upkeep::Close => close(alloc, store, volume),
+        }
     }
 }
 
@@ -52,43 +59,5 @@ impl Call for GiveUp {
         volume: &mut Volume,
     ) -> Result<bool, Fault> {
         volume.give_up(alloc, store, self.block)
-    }
-}
-
-/// Writes the times that no edit has written yet, and then all that is pending in the store.
-#[derive(Clone, Copy, Debug)]
-pub struct Flush;
-
-impl Call for Flush {
-    type Answer = ();
-
-    ghost does = { λ c T old new volume volume' result. FlushesVolume T old new volume volume' result };
-
-    fn make<S: FlushStore>(
-        &self,
-        alloc: Global,
-        store: &mut S,
-        volume: &mut Volume,
-    ) -> Result<(), Fault> {
-        flush_volume(alloc, store, volume)
-    }
-}
-
-/// Closes a volume.
-#[derive(Clone, Copy, Debug)]
-pub struct Close;
-
-impl Call for Close {
-    type Answer = ();
-
-    ghost does = { λ c T old new volume volume' result. CloseDoes T old new volume volume' result };
-
-    fn make<S: FlushStore>(
-        &self,
-        alloc: Global,
-        store: &mut S,
-        volume: &mut Volume,
-    ) -> Result<(), Fault> {
-        close(alloc, store, volume)
     }
 }

@@ -4,7 +4,7 @@ ghost use Rattle.std.specs.Prelude.{◌≡◌, IfOk};
 ghost use Rattle.treefs_session.specs.Freeing.{FreesAndTries, GivesUp, GivesUpAgain, MakesFreely, ReapsAndWrites, Syncs, lacks_space, unheld};
 
 use crate::call::Call;
-use crate::calls::lives::{Flush, GiveUp, Reap};
+use crate::calls::lives::{GiveUp, Upkeep};
 use crate::session::Session;
 use crate::tries::repeat;
 use flush_store::FlushStore;
@@ -41,10 +41,10 @@ impl<S: FlushStore> Session<S> {
             self.new.volume result }
     {
         let (store, volume) = (&mut self.store, &mut self.volume);
-        if let Err(fault) = repeat(alloc, store, volume, &Reap { numbers }) {
+        if let Err(fault) = repeat(alloc, store, volume, &Upkeep::Reap { numbers }) {
             return Err(fault);
         }
-        repeat(alloc, store, volume, &Flush)
+        repeat(alloc, store, volume, &Upkeep::Flush)
     }
 
     /// Frees the inodes that no name leads to, but for held ones, and writes all that is pending, with the times that no edit has written yet. The faults are
@@ -109,7 +109,7 @@ impl<S: FlushStore> Session<S> {
             self.new.volume result }
     {
         let (store, volume) = (&mut self.store, &mut self.volume);
-        match repeat(alloc, store, volume, &Flush) {
+        match repeat(alloc, store, volume, &Upkeep::Flush) {
             Ok(()) => repeat(alloc, store, volume, &GiveUp { block }),
             Err(fault) => Err(fault),
         }

@@ -1,4 +1,4 @@
-use Rattle.std.proofs.Common.{◌≡◌, Option, Some, inl, inr, refl, subst}
+use Rattle.std.proofs.Common.{Option, Some, inr, refl, subst}
 use Rattle.tree_lines.specs.Places.{IsFolder}
 use Rattle.tree_lines.specs.Trees.{IsThereIn}
 use Rattle.tree_lines.specs.declared.node.Node.{Node}

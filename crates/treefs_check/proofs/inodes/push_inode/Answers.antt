@@ -1,5 +1,6 @@
 use Rattle.std.proofs.Common.{◌≡◌, ◌++◌, ap, ◌∙◌}
 use Rattle.treefs_mending.specs.Inodes.{inode_plan}
+use Rattle.treefs_mending.specs.Surveys.{Survey}
 use Rattle.treefs_check.specs.Findings.{if_finding}
 use Rattle.treefs_check.specs.Inodes.{links_finding, long_finding, parent_finding}
 use Rattle.treefs_check.proofs.Appended.{four, said}
@@ -10,10 +11,12 @@ returns g c =
     let survey = c.args.survey.now in
     let numbered = c.args.numbered.now in
     let plan = inode_plan survey.tallies numbered.number numbered.inode in
+    let planned : c.plan_inode-plan.result ≡ plan =
+    c.plan_inode-plan.ensures ∙ ap (λ tallies. inode_plan tallies numbered.number numbered.inode) (c.deref.ensures.value ∙ ap (λ (s : Survey). s.tallies) c.survey.view_is) in
     let links : c.links_finding.result ≡ links_finding survey numbered plan.links =
-    c.links_finding.ensures ∙ ap (λ p. links_finding survey numbered p.links) c.plan_of-plan.ensures in
+    c.links_finding.ensures ∙ ap (λ p. links_finding survey numbered p.links) planned in
     let parent : c.parent_finding.result ≡ parent_finding numbered plan.parent =
-    c.parent_finding.ensures ∙ ap (λ p. parent_finding numbered p.parent) c.plan_of-plan.ensures in
+    c.parent_finding.ensures ∙ ap (λ p. parent_finding numbered p.parent) planned in
     let long : c.long_finding.result ≡ long_finding numbered = c.long_finding.ensures in
     let a = if_finding c.links_finding.result in
     let b = if_finding c.parent_finding.result in

@@ -1,8 +1,5 @@
-use Rattle.std.proofs.Common.{refl}
-use Rattle.xn_model.specs.Root.{word_at}
-use Rattle.treefs_format.specs.Numbers.{words_at}
+use Rattle.treefs_format.proofs.Stated.{node_children}
 use Rattle.treefs_format.proofs.law.nodes_are_read_back.Goals as goal
 
 pub returns-clause-children : goal.returns-clause-children
-unfolding words_at word_at
-returns-clause-children c = λ t. refl
+returns-clause-children c = node_children

@@ -3,4 +3,4 @@ use Rattle.treefs_laws.proofs.law.commit_replaces_a_name.Goals as goal
 
 pub returns : goal.returns
 returns c = λ T state state' volume volume' block inode d name n is_open begun wide does.
-    replaced_said T state state' volume d name is_open c.layout_is_known.ensures wide block inode begun volume' n does
+    replaced_said T state state' volume d name is_open wide block inode begun volume' n does

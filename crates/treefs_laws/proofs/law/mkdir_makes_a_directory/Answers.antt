@@ -3,8 +3,4 @@ use Rattle.treefs_laws.proofs.law.mkdir_makes_a_directory.Goals as goal
 
 pub returns : goal.returns
 returns c = λ T state state' volume volume' d name attributes n is_open fit wide does.
-    directory_so T state state' volume d name is_open c.layout_is_known.ensures (record {
-      kind = c.modes_are_read_back.ensures.kind;
-      permissions = c.modes_are_read_back.ensures.permissions;
-      short = c.modes_are_read_back.ensures.short;
-    }) wide attributes fit volume' n does
+    directory_so T state state' volume d name is_open wide attributes fit volume' n does

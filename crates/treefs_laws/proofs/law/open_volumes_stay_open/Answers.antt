@@ -6,14 +6,10 @@ returns-clause-times c = λ T state volume volume' n mtime fits is_open does. ti
 
 pub returns-clause-attributes : goal.returns-clause-attributes
 returns-clause-attributes c = λ T state state' volume volume' n attributes wide is_open does.
-    attributes_open T state volume is_open c.layout_is_known.ensures (record {
-      kind = c.modes_are_read_back.ensures.kind;
-      permissions = c.modes_are_read_back.ensures.permissions;
-      short = c.modes_are_read_back.ensures.short;
-    }) state' volume' n attributes wide does
+    attributes_open T state volume is_open state' volume' n attributes wide does
 
 pub returns-clause-unlink : goal.returns-clause-unlink
-returns-clause-unlink c = λ T state state' volume volume' d name is_open does. unlink_open T state volume is_open c.layout_is_known.ensures state' volume' d name does
+returns-clause-unlink c = λ T state state' volume volume' d name is_open does. unlink_open T state volume is_open state' volume' d name does
 
 pub returns-clause-rmdir : goal.returns-clause-rmdir
-returns-clause-rmdir c = λ T state state' volume volume' d name is_open does. rmdir_open T state volume is_open c.layout_is_known.ensures state' volume' d name does
+returns-clause-rmdir c = λ T state state' volume volume' d name is_open does. rmdir_open T state volume is_open state' volume' d name does

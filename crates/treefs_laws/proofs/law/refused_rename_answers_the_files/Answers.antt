@@ -3,4 +3,4 @@ use Rattle.treefs_laws.proofs.law.refused_rename_answers_the_files.Goals as goal
 
 pub returns : goal.returns
 returns c =
-    λ T state state' volume volume' d name to new fault kept does. rename_refused T state volume kept c.layout_is_known.ensures d name to new fault state' volume' does
+    λ T state state' volume volume' d name to new fault kept does. rename_refused T state volume kept d name to new fault state' volume' does

@@ -3,9 +3,4 @@ use Rattle.treefs_laws.proofs.law.set_attributes_sets_what_is_told.Goals as goal
 
 pub returns : goal.returns
 returns c = λ T state state' volume volume' n a wide kept does.
-    attributed_so T state state' volume volume' n a c.layout_is_known.ensures
-    (record {
-      kind = c.modes_are_read_back.ensures.kind;
-      permissions = c.modes_are_read_back.ensures.permissions;
-      short = c.modes_are_read_back.ensures.short;
-    }) wide kept does
+    attributed_so T state state' volume volume' n a wide kept does

@@ -3,5 +3,5 @@ use Rattle.treefs_laws.proofs.law.write_changes_bytes.Goals as goal
 
 pub returns : goal.returns
 returns c = λ T old new volume volume' number at bytes taken is_open few wide does.
-    write_done (record { set = c.attached_blocks_are_pointed_to.ensures; empty = c.empty_blocks_change_no_file.ensures }) T c.layout_is_known.ensures old volume is_open number at bytes few wide
+    write_done T old volume is_open number at bytes few wide
     new volume' taken does

@@ -1,19 +1,13 @@
+use Rattle.treefs_laws.proofs.ForCallers.{truncate_done, truncate_refused}
 use Rattle.treefs_session_laws.proofs.Altered.{truncated_again}
 use Rattle.treefs_session_laws.proofs.Sized.{session_sizes}
 use Rattle.treefs_session_laws.proofs.bytes.sessions_set_a_size.Goals as goal
 
 pub returns-clause-made : goal.returns-clause-made
 returns-clause-made c = λ T held old new volume volume' number size is_open makes.
-    let said = session_sizes T (record {
-      waves = c.flushes_change_no_file.ensures.waves T;
-      refused = c.flushes_change_no_file.ensures.refused T;
-      room = c.making_room_changes_no_file.ensures T;
-      times = c.write_times_changes_no_file.ensures T;
-      reaps = c.reap_frees_orphans.ensures.ever T;
-      reaped = c.reap_frees_orphans.ensures.done T;
-    }) held number size
-    (λ old new v v' is_open does. c.truncate_sets_a_size.ensures.done T old new v v' number size is_open does)
-    (λ old new v v' fault is_open does. c.truncate_sets_a_size.ensures.refused T old new v v' number size fault is_open does)
+    let said = session_sizes T held number size
+    (λ old new v v' is_open does. truncate_done T old v is_open number size new v' does)
+    (λ old new v v' fault is_open does. truncate_refused T old v is_open number size new v' fault does)
     old new volume volume' is_open makes in
     (said.0, said.1.0, said.1.1, said.1.2)
 

@@ -1,40 +1,23 @@
-use Rattle.treefs_session_laws.proofs.Freed.{AreKnown}
 use Rattle.treefs_session_laws.proofs.Written.{AreWrites, all_end, none_written, part_end}
 use Rattle.treefs_session_laws.proofs.bytes.sessions_write_bytes.Goals as goal
 
 pub returns-clause-all : goal.returns-clause-all
 returns-clause-all c = λ T held old new volume volume' number at bytes is_open few wide some all.
-    let known : AreKnown T = record {
-      waves = c.flushes_change_no_file.ensures.waves T;
-      refused = c.flushes_change_no_file.ensures.refused T;
-      room = c.making_room_changes_no_file.ensures T;
-      times = c.write_times_changes_no_file.ensures T;
-      reaps = c.reap_frees_orphans.ensures.ever T;
-      reaped = c.reap_frees_orphans.ensures.done T;
-    } in
     let writes : AreWrites T number = record {
       done = λ old new v v' at bytes taken is_open few wide does. c.write_changes_bytes.ensures T old new v v' number at bytes taken is_open few wide does;
       refused = λ old new v v' at bytes fault is_open few wide does.
           c.refused_write_keeps_the_session.ensures T old new v v' number at bytes fault is_open few wide does;
     } in
-    all_end T known held number writes at bytes wide old new volume volume' (is_open, few) some all
+    all_end T held number writes at bytes wide old new volume volume' (is_open, few) some all
 
 pub returns-clause-part : goal.returns-clause-part
 returns-clause-part c = λ T held old new volume volume' number at bytes fault is_open few wide all.
-    let known : AreKnown T = record {
-      waves = c.flushes_change_no_file.ensures.waves T;
-      refused = c.flushes_change_no_file.ensures.refused T;
-      room = c.making_room_changes_no_file.ensures T;
-      times = c.write_times_changes_no_file.ensures T;
-      reaps = c.reap_frees_orphans.ensures.ever T;
-      reaped = c.reap_frees_orphans.ensures.done T;
-    } in
     let writes : AreWrites T number = record {
       done = λ old new v v' at bytes taken is_open few wide does. c.write_changes_bytes.ensures T old new v v' number at bytes taken is_open few wide does;
       refused = λ old new v v' at bytes fault is_open few wide does.
           c.refused_write_keeps_the_session.ensures T old new v v' number at bytes fault is_open few wide does;
     } in
-    part_end T known held number writes at bytes wide old new volume volume' (is_open, few) fault all
+    part_end T held number writes at bytes wide old new volume volume' (is_open, few) fault all
 
 pub returns-clause-none : goal.returns-clause-none
 returns-clause-none c = λ T held old new volume volume' target bytes result empty all.

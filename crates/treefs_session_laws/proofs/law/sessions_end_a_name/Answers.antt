@@ -20,7 +20,7 @@ returns c = λ T held old new volume volume' d name is_open makes.
       | inl same ↦ elim same.1 [ inl said ↦ unlinked_space (files_in s v) v.memory.clock d name fault said | inr is ↦ ap lacks_space is ]
       | inr store ↦ ap lacks_space store.1
     ])
-    (c.making_room_changes_no_file.ensures T) held old new volume volume' tt is_open makes in
+    held old new volume volume' tt is_open makes in
     let ended = c.unlink_ends_a_name.ensures T done.0 new done.1 volume' d name done.2.is_open.kept done.3 in (
       c.open_volumes_stay_open.ensures.unlink T done.0 new done.1 volume' d name done.2.is_open done.3,
       files_before T old done.0 volume done.1 (λ f t. unlinked f t d name ≡ Ok (files_in new volume')) done.2 ended.1,

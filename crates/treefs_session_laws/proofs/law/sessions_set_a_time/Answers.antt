@@ -21,7 +21,7 @@ returns c = λ T held old new volume volume' n mtime is_open fits makes.
       | inl said ↦ found_space (files_in s v) n fault said
       | inr want ↦ elim want [ inl is ↦ ap lacks_space is | inr store ↦ ap lacks_space store.1 ]
     ])
-    (c.making_room_changes_no_file.ensures T) held old new volume volume' tt is_open makes in
+    held old new volume volume' tt is_open makes in
     let sets = c.set_mtime_sets_a_time.ensures T done.0 done.1 volume' n mtime fits done.2.is_open.kept done.3.0 in
     let opens = c.open_volumes_stay_open.ensures.times T done.0 done.1 volume' n mtime fits done.2.is_open done.3.0 in (
       subst (λ s. IsOpen T s volume') (sym done.3.1) opens,

@@ -21,7 +21,7 @@ returns c = λ T held old new volume volume' n attributes is_open wide makes.
       | inl said ↦ found_space (files_in s v) n fault said
       | inr want ↦ elim want [ inl is ↦ ap lacks_space is | inr store ↦ ap lacks_space store.1 ]
     ])
-    (c.making_room_changes_no_file.ensures T) held old new volume volume' tt is_open makes in
+    held old new volume volume' tt is_open makes in
     let sets = c.set_attributes_sets_what_is_told.ensures T done.0 new done.1 volume' n attributes wide done.2.is_open.kept done.3 in (
       c.open_volumes_stay_open.ensures.attributes T done.0 new done.1 volume' n attributes wide done.2.is_open done.3,
       files_before T old done.0 volume done.1

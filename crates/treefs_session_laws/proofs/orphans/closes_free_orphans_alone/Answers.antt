@@ -4,32 +4,11 @@ use Rattle.treefs_session_laws.proofs.orphans.closes_free_orphans_alone.Goals as
 
 pub returns-clause-ever : goal.returns-clause-ever
 returns-clause-ever c = λ T old new volume volume' fault is_open closes.
-    closes_unheld T (record {
-      waves = c.flushes_change_no_file.ensures.waves T;
-      refused = c.flushes_change_no_file.ensures.refused T;
-      room = c.making_room_changes_no_file.ensures T;
-      times = c.write_times_changes_no_file.ensures T;
-      reaps = c.reap_frees_orphans.ensures.ever T;
-      reaped = c.reap_frees_orphans.ensures.done T;
-    }) (c.reap_frees_orphans.ensures.waiting T) (c.marks_change_no_file.ensures T) old new volume volume' (Err fault) is_open closes
+    closes_unheld T old new volume volume' (Err fault) is_open closes
 
 pub returns-clause-done : goal.returns-clause-done
 returns-clause-done c = λ T old new volume is_open closes. (
   closes.0,
-  closes_unheld T (record {
-    waves = c.flushes_change_no_file.ensures.waves T;
-    refused = c.flushes_change_no_file.ensures.refused T;
-    room = c.making_room_changes_no_file.ensures T;
-    times = c.write_times_changes_no_file.ensures T;
-    reaps = c.reap_frees_orphans.ensures.ever T;
-    reaped = c.reap_frees_orphans.ensures.done T;
-  }) (c.reap_frees_orphans.ensures.waiting T) (c.marks_change_no_file.ensures T) old new volume closes.0 (Ok tt) is_open closes.1,
-  closes_all T (record {
-    waves = c.flushes_change_no_file.ensures.waves T;
-    refused = c.flushes_change_no_file.ensures.refused T;
-    room = c.making_room_changes_no_file.ensures T;
-    times = c.write_times_changes_no_file.ensures T;
-    reaps = c.reap_frees_orphans.ensures.ever T;
-    reaped = c.reap_frees_orphans.ensures.done T;
-  }) (c.reap_frees_orphans.ensures.waiting T) (c.marks_change_no_file.ensures T) old new volume closes.0 is_open closes.1,
+  closes_unheld T old new volume closes.0 (Ok tt) is_open closes.1,
+  closes_all T old new volume closes.0 is_open closes.1,
 )

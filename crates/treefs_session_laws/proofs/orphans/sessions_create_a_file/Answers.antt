@@ -9,14 +9,7 @@ use Rattle.treefs_session_laws.proofs.orphans.sessions_create_a_file.Goals as go
 
 pub returns : goal.returns
 returns c = λ T held old new volume volume' d name attributes n is_open fits bytes makes.
-    let done = made_freely T (record {
-      waves = c.flushes_change_no_file.ensures.waves T;
-      refused = c.flushes_change_no_file.ensures.refused T;
-      room = c.making_room_changes_no_file.ensures T;
-      times = c.write_times_changes_no_file.ensures T;
-      reaps = c.reap_frees_orphans.ensures.ever T;
-      reaped = c.reap_frees_orphans.ensures.done T;
-    }) held (λ s s' v v' result. CreateDoes T s s' v v' d name attributes result)
+    let done = made_freely T held (λ s s' v v' result. CreateDoes T s s' v v' d name attributes result)
     (λ s s' v v' fault open_there again does. again_before T s s' v v' fault (λ f. CreateDoes T s s' v v' d name attributes (Err f))
     (λ full. refused_before T s s' v v' _ open_there (c.refused_new_inodes_answer_the_files.ensures.create T s s' v v' d name attributes _ full))
     (λ space at. c.want_of_space_changes_no_file.ensures.create T s s' v v' d name attributes fault open_there space at) again does)

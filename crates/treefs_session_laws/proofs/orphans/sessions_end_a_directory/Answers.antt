@@ -9,14 +9,7 @@ use Rattle.treefs_session_laws.proofs.orphans.sessions_end_a_directory.Goals as 
 
 pub returns : goal.returns
 returns c = λ T held old new volume volume' d name is_open makes.
-    let done = made_freely T (record {
-      waves = c.flushes_change_no_file.ensures.waves T;
-      refused = c.flushes_change_no_file.ensures.refused T;
-      room = c.making_room_changes_no_file.ensures T;
-      times = c.write_times_changes_no_file.ensures T;
-      reaps = c.reap_frees_orphans.ensures.ever T;
-      reaped = c.reap_frees_orphans.ensures.done T;
-    }) held (λ s s' v v' result. RmdirDoes T s s' v v' d name result)
+    let done = made_freely T held (λ s s' v v' result. RmdirDoes T s s' v v' d name result)
     (λ s s' v v' fault open_there again does. again_before T s s' v v' fault (λ f. RmdirDoes T s s' v v' d name (Err f))
     (λ full. refused_before T s s' v v' _ open_there (c.refused_rmdir_answers_the_files.ensures T s s' v v' d name _ open_there.kept full))
     (λ space at. c.want_of_space_changes_no_file.ensures.rmdir T s s' v v' d name fault open_there space at) again does)

@@ -10,14 +10,7 @@ use Rattle.treefs_session_laws.proofs.orphans.sessions_move_a_name.Goals as goal
 
 pub returns : goal.returns
 returns c = λ T held old new volume volume' d name to other is_open stands bytes makes.
-    let done = made_freely T (record {
-      waves = c.flushes_change_no_file.ensures.waves T;
-      refused = c.flushes_change_no_file.ensures.refused T;
-      room = c.making_room_changes_no_file.ensures T;
-      times = c.write_times_changes_no_file.ensures T;
-      reaps = c.reap_frees_orphans.ensures.ever T;
-      reaped = c.reap_frees_orphans.ensures.done T;
-    }) held (λ s s' v v' result. RenameDoes T s s' v v' d name to other result)
+    let done = made_freely T held (λ s s' v v' result. RenameDoes T s s' v v' d name to other result)
     (λ s s' v v' fault open_there again does. again_before T s s' v v' fault (λ f. RenameDoes T s s' v v' d name to other (Err f))
     (λ full. refused_before T s s' v v' _ open_there (c.refused_rename_answers_the_files.ensures T s s' v v' d name to other _ open_there.kept full))
     (λ space at. c.want_of_space_changes_no_file.ensures.rename T s s' v v' d name to other fault open_there space at) again does)

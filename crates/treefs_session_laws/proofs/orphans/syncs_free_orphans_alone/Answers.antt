@@ -3,22 +3,8 @@ use Rattle.treefs_session_laws.proofs.orphans.syncs_free_orphans_alone.Goals as 
 
 pub returns-clause-ever : goal.returns-clause-ever
 returns-clause-ever c = λ T held old new volume volume' result is_open syncs.
-    syncs_unheld T (record {
-      waves = c.flushes_change_no_file.ensures.waves T;
-      refused = c.flushes_change_no_file.ensures.refused T;
-      room = c.making_room_changes_no_file.ensures T;
-      times = c.write_times_changes_no_file.ensures T;
-      reaps = c.reap_frees_orphans.ensures.ever T;
-      reaped = c.reap_frees_orphans.ensures.done T;
-    }) held old new volume volume' result is_open syncs
+    syncs_unheld T held old new volume volume' result is_open syncs
 
 pub returns-clause-done : goal.returns-clause-done
 returns-clause-done c = λ T held old new volume volume' is_open syncs.
-    syncs_all T (record {
-      waves = c.flushes_change_no_file.ensures.waves T;
-      refused = c.flushes_change_no_file.ensures.refused T;
-      room = c.making_room_changes_no_file.ensures T;
-      times = c.write_times_changes_no_file.ensures T;
-      reaps = c.reap_frees_orphans.ensures.ever T;
-      reaped = c.reap_frees_orphans.ensures.done T;
-    }) held old new volume volume' is_open syncs
+    syncs_all T held old new volume volume' is_open syncs

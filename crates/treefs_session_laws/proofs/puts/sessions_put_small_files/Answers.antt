@@ -1,21 +1,12 @@
 use Rattle.std.proofs.Common.{◌<◌, take, arith}
 use Rattle.std.proofs.lemmas.List.{length-take}
 use Rattle.std.proofs.lemmas.List.Elements.{All-take}
-use Rattle.treefs_session_laws.proofs.Freed.{AreKnown}
 use Rattle.treefs_session_laws.proofs.Naming.{AreCommits, commit_named, commit_refused}
 use Rattle.treefs_session_laws.proofs.Put.{AreBegins, is_put}
 use Rattle.treefs_session_laws.proofs.puts.sessions_put_small_files.Goals as goal
 
 pub returns : goal.returns
 returns c = λ T held put old new volume volume' n is_open fit file wide small name_wide does.
-    let known : AreKnown T = record {
-      waves = c.flushes_change_no_file.ensures.waves T;
-      refused = c.flushes_change_no_file.ensures.refused T;
-      room = c.making_room_changes_no_file.ensures T;
-      times = c.write_times_changes_no_file.ensures T;
-      reaps = c.reap_frees_orphans.ensures.ever T;
-      reaped = c.reap_frees_orphans.ensures.done T;
-    } in
     let commits : AreCommits T = record {
       refused = λ s s' v v' block d name replace fault does. commit_refused T s s' v v' block d name fault _ _
           (λ does. c.refused_commit_answers_the_files.ensures.named T s s' v v' block d name fault does)
@@ -35,4 +26,4 @@ returns c = λ T held put old new volume volume' n is_open fit file wide small n
           c.begun_writes_change_no_file.ensures T s s' v b at bytes result is_open unnamed wide does;
       gives = λ b s s' v result is_open unnamed does. c.give_up_changes_no_file.ensures.given T s s' v b result is_open unnamed does;
     } in
-    is_put T known commits held put laws file wide small name_wide old new volume volume' n is_open does
+    is_put T commits held put laws file wide small name_wide old new volume volume' n is_open does

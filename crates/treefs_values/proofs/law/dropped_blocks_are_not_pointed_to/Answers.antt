@@ -3,8 +3,6 @@ use Rattle.treefs_values.proofs.law.dropped_blocks_are_not_pointed_to.Goals as g
 
 pub returns : goal.returns
 returns c = λ node inode type content holder places blocks behind other some whole over led apart. (
-  pointers_cleared node inode type content holder places blocks behind other some whole over led apart
-      (λ m others i long fits. (c.inode_pointers_are_set.ensures.others m others i long fits).0),
-  cleared_whole node inode type content holder places blocks behind other some whole over led apart
-      (λ m others i long fits. (c.inode_pointers_are_set.ensures.others m others i long fits).0),
+  pointers_cleared node inode type content holder places blocks behind other some whole over led apart,
+  cleared_whole node inode type content holder places blocks behind other some whole over led apart,
 )

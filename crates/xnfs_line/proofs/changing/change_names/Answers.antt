@@ -1,7 +1,23 @@
 use Rattle.std.proofs.Common.{◌≡◌, length, map, nat_lt, subst, sym}
-use Rattle.xnfs_line.specs.Words.{CopiesSources, NamesDo}
-use Rattle.xnfs_line.proofs.WordCases.{copies_sources}
+use Rattle.xnfs_line.specs.Words.{CopiesSources, NamesDo, PutsPaths}
+use Rattle.xnfs_line.proofs.WordCases.{copies_sources, puts_paths}
 use Rattle.xnfs_line.proofs.changing.change_names.Goals as goal
+
+-- `put`
+pub returns-in-Put-clause-does : goal.returns-in-Put-clause-does
+returns-in-Put-clause-does g c =
+    let before = c.args.opened.now in
+    let after = c.put.new.volume in
+    let T = g.S.Store.types_of before.session.store in
+    let old = g.S.Store.state_of before.session.store in
+    let new = g.S.Store.state_of after.session.store in
+    let sources = c.deref.result.now in
+    subst (λ w. NamesDo T before.folder w before.told after.told old new before.session.volume after.session.volume c.put.result) (sym c.in-Put.is)
+    (subst (λ items. PutsPaths T before.folder c.in-Put.path.now (nat_lt 1 (length items)) (map (λ source. source.now) items)
+    before.told after.told old new before.session.volume after.session.volume c.put.result) c.deref.ensures.value
+    (puts_paths T (g.S.Store.types_of after.session.store) before.folder after.folder c.args.asked.1.has_lines c.in-Put.path.now (nat_lt 1 (length sources))
+    (map (λ source. source.now) sources) before.told after.told old new before.session.volume after.session.volume c.put.result c.put.ensures.types
+    c.put.ensures.folder c.put.ensures.does))
 
 -- `cp`
 pub returns-in-Copy-clause-does : goal.returns-in-Copy-clause-does

@@ -1,9 +1,0 @@
-use Rattle.std.proofs.Common.{◌≤◌}
-use Rattle.script.proofs.Decimals.{IsValueTo}
-use Rattle.script.proofs.number.parse_small.Given as goal
-
-abbrev pub invariant-loop-digit : goal.invariant-loop-digit
-invariant-loop-digit l = record {
-  read : IsValueTo l.text l.digit-index l.number;
-  small : l.number ≤ l.greatest;
-}
