@@ -3,7 +3,7 @@ use Rattle.std.proofs.Common.{◌≡◌, ℕ, zero, suc, ◌+◌, ◌-◌, ◌*�
 use Rattle.std.specs.Prelude.{◌&&◌, ◌||◌, ◌==◌, not, nat_lt, option_map, slice_index_or, slice_set, if◌then◌else◌}
 use Rattle.std.specs.Int.{w32, from_le_bytes}
 use Rattle.std.specs.List.{range_with_len}
-use Rattle.std.proofs.lemmas.Bool.{ltb-true, ltb-false, ne_eqb}
+use Rattle.std.proofs.lemmas.Bool.{le-ltb, lt-ltb, ltb-true, ltb-false, ne_eqb}
 use Rattle.std.proofs.lemmas.Option.{none-some, same_Some}
 use Rattle.std.proofs.lemmas.List.{drop_more}
 use Rattle.std.proofs.lemmas.List.FromFn.{get_or-map-range_with_len}
@@ -117,3 +117,7 @@ pub ended_named : (names : List Bool) (old lives new : Lives) (b : ℕ) → name
 ended_named names old lives new b known view is =
     ap (λ (ns : List Bool). if b == 0 then places_named [] else ns) (known ∙ ap (λ (ls : Lives). places_named (root_on_disk ls)) view)
     ∙ (sym (freed_named lives b) ∙ sym (ap (λ (ls : Lives). places_named (root_on_disk ls)) is))
+
+-- of a type that is not built in, the place says it
+pub named_within : (named : List Bool) (u : ℕ) → 3 ≤ u → u < 19 → slice_index_or named (u - 3) false ≡ names_type named u
+named_within named u from within = λ i. sym (le-ltb u 3 from) i || (sym (lt-ltb u 19 within) i && slice_index_or named (u - 3) false)

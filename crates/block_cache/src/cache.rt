@@ -1,13 +1,12 @@
 // What each block has been since it was last free.
 
-ghost use Rattle.std.specs.Prelude.{◌≡◌, ℕ, ◌+◌, ◌*◌, ◌^◌, ◌<◌, ◌≤◌, [], ◌∷◌, length, map, Option, Some, None, IsTrue, IfOk, IfSome, OnOk, OnErr, bytes_eq};
+ghost use Rattle.std.specs.Prelude.{◌≡◌, ℕ, ◌*◌, ◌^◌, ◌<◌, ◌≤◌, length, map, Option, Some, None, IsTrue, IfOk, IfSome, OnOk, OnErr};
 ghost use Rattle.std.specs.Prelude.{Contains, is_some, option_map, slice_get, slice_set};
 ghost use Rattle.std.specs.List.{list_any, range_with_len};
-ghost use Rattle.std.specs.Option.{option_copied, option_and_then};
+ghost use Rattle.std.specs.Option.{option_copied};
 ghost use Rattle.slab.specs.Slab.{get};
 ghost use Rattle.xn_model.specs.Root.{has_type};
-ghost use Rattle.xn_model.specs.Lives.{durable_bytes, root_on_disk, life_at, change_at, with_state, with_status, settled_at, begun_at, current, alive_and};
-ghost use Rattle.xn_model.specs.Lives.{is_for};
+ghost use Rattle.xn_model.specs.Lives.{durable_bytes, root_on_disk, life_at, change_at, with_state, with_status, settled_at, begun_at, alive_and};
 ghost use Rattle.xn_model.specs.Calls.{new_life, life_bytes, life_pending, patched};
 ghost use Rattle.xn_model.specs.Rules.{IsCount};
 ghost use Rattle.xn_model.specs.Worlds.{all_pending};
@@ -23,7 +22,7 @@ use crate::entry::Entry;
 use crate::life::{Change, Facts, FoundLife, Life};
 use crate::live_block::LiveBlock;
 use crate::lives::Lives;
-use crate::named_places::NamedPlaces;
+use crate::named_places::{BUILT_IN_TYPES, NamedPlaces, PLACES};
 use crate::new_bytes::NewBytes;
 use crate::rollback;
 use edit_list::{EditId, Fs, Undo};
@@ -122,7 +121,8 @@ impl Cache {
     pub fn blocks(&self) -> u32
         ensures { result ≡ length self.now }
     {
-        self.lives.blocks()
+        let lives = &self.lives;
+        lives.blocks
     }
 
     /// The life of a block, unless it is free or past the end.
@@ -159,14 +159,16 @@ impl Cache {
         ensures count { result ≡ all_pending self.now }
         ensures few { result ≤ 64 * length self.now }
     {
-        self.lives.pending()
+        let lives = &self.lives;
+        lives.totals.pending
     }
 
     /// Whether a write of some block is under way.
     pub fn is_any_in_flight(&self) -> bool
         ensures { result ≡ list_any (alive_and (λ l. is_some l.begun)) self.now }
     {
-        self.lives.in_flight() > 0
+        let lives = &self.lives;
+        lives.totals.in_flight > 0
     }
 
     /// What the pending entry at a place says, the oldest at 0.
@@ -181,7 +183,9 @@ impl Cache {
     pub fn has_type_on_disk(&self, ty: u32) -> bool
         ensures { result ≡ has_type (root_on_disk self.now) ty }
     {
-        self.named.has_type(ty)
+        let places = &self.named.places;
+        ty < BUILT_IN_TYPES
+            || (ty < BUILT_IN_TYPES + PLACES && places[(ty - BUILT_IN_TYPES) as usize])
     }
 
     /// The bytes of a block in use with only its first pending entries done.
@@ -319,7 +323,7 @@ fn forget_first(entries: &mut Slab<Entry>, life: Option<&Life>, count: usize)
     ensures gone { (k : ℕ) → Contains (first_keys count (option_copied life.entry)) k → get entries.new k ≡ None }
 {
     if let Some(life) = life {
-        forget(entries, &life.keys()[..count]);
+        forget(entries, &life.keys[..count]);
     }
 }
 
@@ -329,7 +333,7 @@ fn forget_all(entries: &mut Slab<Entry>, life: Option<&Life>)
     ensures gone { (k : ℕ) → Contains (keys_of (option_copied life.entry)) k → get entries.new k ≡ None }
 {
     if let Some(life) = life {
-        forget(entries, life.keys());
+        forget(entries, &life.keys);
     }
 }
 

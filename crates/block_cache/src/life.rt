@@ -1,7 +1,7 @@
 // What a block in use holds.
 
-ghost use Rattle.std.specs.Prelude.{◌≡◌, ◌≤◌, ◌&&◌, ◌==◌, true, false, is_some, [], ◌∷◌, ◌++◌, length, drop, option_map, Some, None, IfOk, OnOk, OnErr};
-ghost use Rattle.xn_model.specs.Lives.{is_dropped, is_for, is_fresh, is_owned_by};
+ghost use Rattle.std.specs.Prelude.{◌≡◌, ◌≤◌, ◌&&◌, ◌==◌, true, false, [], length, drop, None, OnOk, OnErr};
+ghost use Rattle.xn_model.specs.Lives.{is_dropped, is_fresh, is_owned_by};
 ghost use Rattle.block_cache.specs.Systems.{system_of};
 ghost use Rattle.block_cache.specs.Kept.{started_life, resting};
 ghost use Rattle.block_cache.specs.NewBytes.{AreWithinLimits, appended_by};
@@ -17,13 +17,13 @@ use store_types::{BLOCK_LEN, Status};
 /// the oldest first. The bytes come first, so that a life that is found in an image has them copied once, and the others lie side by side.
 #[derive(Drop)]
 pub struct Life {
-    current: [u8; BLOCK_LEN],
-    fs: Option<Fs>,
-    ty: u32,
-    status: Status,
-    is_durable: bool,
-    keys: Vec<usize>,
-    begun: Option<u32>,
+    pub(crate) current: [u8; BLOCK_LEN],
+    pub(crate) fs: Option<Fs>,
+    pub(crate) ty: u32,
+    pub(crate) status: Status,
+    pub(crate) is_durable: bool,
+    pub(crate) keys: Vec<usize>,
+    pub(crate) begun: Option<u32>,
 }
 
 impl Model for Life {
@@ -107,13 +107,6 @@ impl Facts {
         }
     }
 
-    /// Whether a write of the block is under way.
-    pub fn is_in_flight(&self) -> bool
-        ensures { result ≡ is_some self.now.begun }
-    {
-        self.begun.is_some()
-    }
-
     /// Whether the newest state of the block is known to be on the disk.
     pub fn is_all_durable(&self) -> bool
         ensures { result ≡ (self.now.is_durable && self.now.pending == 0) }
@@ -175,55 +168,6 @@ impl Life {
             keys: Vec::new(alloc),
             begun: None,
         }
-    }
-
-    /// Whether the block belongs to a file system.
-    pub fn is_for(&self, fs: Fs) -> bool
-        ensures { result ≡ is_for fs.number self.now.fs }
-    {
-        match self.fs {
-            Some(owner) => owner.number() == fs.number(),
-            None => false,
-        }
-    }
-
-    pub fn facts(&self) -> Facts
-        ensures { result ≡ record {
-          ty = self.now.ty;
-          status = self.now.status;
-          is_durable = self.now.is_durable;
-          pending = length self.now.keys;
-          begun = self.now.begun;
-        } }
-    {
-        Facts {
-            ty: self.ty,
-            status: self.status,
-            is_durable: self.is_durable,
-            pending: self.keys.len(),
-            begun: self.begun,
-        }
-    }
-
-    /// The keys of the pending entries, the oldest first.
-    pub fn keys(&self) -> &[usize]
-        ensures { result.now ≡ self.now.keys }
-    {
-        self.keys.as_slice()
-    }
-
-    /// Whether a write of the block is under way.
-    pub fn is_in_flight(&self) -> bool
-        ensures { result ≡ is_some self.now.begun }
-    {
-        self.begun.is_some()
-    }
-
-    /// The newest bytes.
-    pub fn current(&self) -> &[u8; BLOCK_LEN]
-        ensures { result.now ≡ self.now.current }
-    {
-        &self.current
     }
 
     /// Puts one more entry behind the others, which left these bytes.

@@ -13,7 +13,7 @@ ghost use Rattle.block_cache.specs.Views.{HasImage, facts_of, image_at};
 use crate::claim::Claim;
 use crate::entry::Entry;
 use crate::life::{Facts, Life};
-use crate::rollback;
+use crate::rollback::is_copied_image;
 use edit_list::Fs;
 use slab::Slab;
 use std::marker::Model;
@@ -54,37 +54,54 @@ impl<'a> LiveBlock<'a> {
         ensures few { result.pending ≤ 64 }
         ensures begun { IsCount result.begun result.pending }
     {
-        self.life.facts()
+        let life = self.life;
+        Facts {
+            ty: life.ty,
+            status: life.status,
+            is_durable: life.is_durable,
+            pending: life.keys.len(),
+            begun: life.begun,
+        }
     }
 
     /// Whether it belongs to a file system.
     pub fn is_for(&self, fs: Fs) -> bool
         ensures { result ≡ is_for fs.number self.now.fs }
     {
-        self.life.is_for(fs)
+        let life = self.life;
+        match life.fs {
+            Some(owner) => owner.number() == fs.number(),
+            None => false,
+        }
     }
 
     /// Its newest bytes.
     pub fn current(&self) -> &'a [u8; BLOCK_LEN]
         ensures { result.now ≡ current self.now }
     {
-        self.life.current()
+        let life = self.life;
+        &life.current
     }
 
     /// What its pending entry at a place says, the oldest at 0.
     pub fn claim(&self, place: usize) -> Option<&'a Claim>
         ensures { option_copied result ≡ option_map claim_of (slice_get self.now.pending place) }
     {
-        let entry = entry_at(self.entries, self.life.keys(), place)?;
+        let life = self.life;
+        let entry = entry_at(self.entries, &life.keys, place)?;
         Some(&entry.claim)
     }
 
-    /// Whether it has these bytes with only its first pending entries done.
+    /// Whether it has these bytes with only its first pending entries done. Where no entry stands behind those, nothing is copied.
     pub fn has_image(&self, count: u32, bytes: &[u8; BLOCK_LEN]) -> bool
         requires { HasImage count self.now }
         ensures { result ≡ bytes_eq bytes.now (image_at count self.now) }
     {
-        rollback::is_image(self.entries, self.life, count as usize, bytes)
+        let life = self.life;
+        if life.keys.len() <= count as usize {
+            return *bytes == life.current;
+        }
+        is_copied_image(self.entries, life, count as usize, bytes)
     }
 }
 

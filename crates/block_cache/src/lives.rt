@@ -8,7 +8,7 @@ ghost use Rattle.block_cache.specs.Kept.{place_at, change_place, resting_at, sta
 ghost use Rattle.block_cache.specs.Groups.{places_of};
 ghost use Rattle.block_cache.specs.Changed.{MayChange, changed_by};
 ghost use Rattle.block_cache.specs.NewBytes.{AreWithinLimits, appended_by};
-ghost use Rattle.block_cache.specs.Totals.{pending_count, in_flight_of};
+ghost use Rattle.block_cache.specs.Totals.{pending_count};
 
 use crate::group::{GROUP_BLOCKS, Group};
 use crate::life::{Change, FoundLife, Life};
@@ -24,9 +24,9 @@ use store_types::BLOCK_LEN;
 /// handle. What is counted of all lives is kept beside them.
 pub struct Lives {
     alloc: Global,
-    blocks: u32,
+    pub(crate) blocks: u32,
     groups: Vec<Group>,
-    totals: Totals,
+    pub(crate) totals: Totals,
 }
 
 impl Model for Lives {
@@ -73,27 +73,6 @@ impl Lives {
                 in_flight: 0,
             },
         })
-    }
-
-    /// How many blocks there are.
-    pub fn blocks(&self) -> u32
-        ensures { result ≡ length self.now }
-    {
-        self.blocks
-    }
-
-    /// How many entries of all lives are pending.
-    pub fn pending(&self) -> usize
-        ensures { result ≡ sum_by pending_count self.now }
-    {
-        self.totals.pending
-    }
-
-    /// Of how many lives a write is under way.
-    pub fn in_flight(&self) -> usize
-        ensures { result ≡ sum_by in_flight_of self.now }
-    {
-        self.totals.in_flight
     }
 
     /// The life of a block, unless it is free or past the end.

@@ -2,15 +2,15 @@
 
 ghost use Rattle.std.specs.Prelude.{◌≡◌, ◌<◌, ◌==◌, [], not, if◌then◌else◌};
 ghost use Rattle.xn_model.specs.Root.{pointer};
-ghost use Rattle.block_cache.specs.Named.{names_type, places_named};
+ghost use Rattle.block_cache.specs.Named.{places_named};
 
 use store_types::BLOCK_LEN;
 
 /// How many types are built in, of which no place names a template.
-const BUILT_IN_TYPES: u32 = 3;
+pub(crate) const BUILT_IN_TYPES: u32 = 3;
 
 /// How many places a catalogue has.
-const PLACES: u32 = 16;
+pub(crate) const PLACES: u32 = 16;
 
 /// The byte of block 0 at which its catalogue begins.
 const CATALOGUE_START: usize = 8;
@@ -18,7 +18,7 @@ const CATALOGUE_START: usize = 8;
 /// Which places of a catalogue name a template.
 #[derive(Clone, Copy)]
 pub struct NamedPlaces {
-    places: [bool; 16],
+    pub(crate) places: [bool; 16],
 }
 
 impl NamedPlaces {
@@ -51,16 +51,6 @@ impl NamedPlaces {
         } else {
             self
         }
-    }
-
-    /// Whether a type is built in, or its place names its template.
-    pub fn has_type(&self, ty: u32) -> bool
-        ensures { result ≡ names_type self.now.places ty }
-    {
-        if ty < BUILT_IN_TYPES {
-            return true;
-        }
-        ty < BUILT_IN_TYPES + PLACES && self.places[(ty - BUILT_IN_TYPES) as usize]
     }
 }
 

@@ -20,8 +20,8 @@ impl Totals {
     {
         match life {
             Some(life) => Totals {
-                pending: life.keys().len(),
-                in_flight: usize::from(life.is_in_flight()),
+                pending: life.keys.len(),
+                in_flight: usize::from(life.begun.is_some()),
             },
             None => Totals {
                 pending: 0,

@@ -1,15 +1,15 @@
 // The blocks of which a write may begin.
 
-ghost use Rattle.std.specs.Prelude.{◌≡◌, ◌<◌, ◌≤◌, ◌⊎◌, true, false, cond, count_by, is_some, length, map, replicate, None, IfOk, IfSome, IfNone, IsTrue};
-ghost use Rattle.free_map.specs.Members.{IsLeastFrom, HasNoneFrom, is_member};
+ghost use Rattle.std.specs.Prelude.{◌≡◌, ◌<◌, ◌≤◌, ◌⊎◌, true, false, cond, count_by, is_some, length, map, replicate, None, IfOk, IsTrue};
+ghost use Rattle.free_map.specs.Members.{is_member};
 ghost use Rattle.dependencies.specs.WaitLists.{at};
 ghost use Rattle.dependencies.specs.Candidates.{AddsNone, AreCandidates, CandidatesValue, IsTrimmed, Parks, Wakes, with_candidate};
 ghost use Rattle.dependencies.specs.Homes.{AreHomes};
 ghost use Rattle.dependencies.specs.Pending.{is_dirty};
 
 use crate::homes::Homes;
+use crate::unmet::unmet_at;
 use crate::wait_lists::WaitLists;
-use crate::waiting::waits_for;
 use block_cache::Cache;
 use free_map::BlockSet;
 use std::alloc::{AllocError, Global};
@@ -19,7 +19,7 @@ use std::marker::Model;
 /// that one, and is looked at again once a write of it has ended: so no call looks at each block that waits.
 #[derive(Drop)]
 pub struct Candidates {
-    blocks: BlockSet,
+    pub(crate) blocks: BlockSet,
     waits: WaitLists,
 }
 
@@ -43,14 +43,6 @@ impl Candidates {
             blocks: BlockSet::new(alloc, blocks)?,
             waits: WaitLists::new(alloc, blocks)?,
         })
-    }
-
-    /// The least candidate that is not below a number.
-    pub fn least_from(&self, from: u32) -> Option<u32>
-        ensures some { IfSome result (IsLeastFrom self.now.blocks from) }
-        ensures none { IfNone result (HasNoneFrom self.now.blocks from) }
-    {
-        self.blocks.least_from(from)
     }
 
     /// Makes a block a candidate, or takes it out.
@@ -82,7 +74,9 @@ impl Candidates {
     pub fn wake(&mut self, other: u32)
         ensures { Wakes self.old self.new other }
     {
-        wake_all(&mut self.blocks, &mut self.waits, other);
+        while let Some(block) = self.waits.pop(other) {
+            self.blocks.insert(block);
+        }
     }
 
     /// Puts a candidate on the list of another block, unless it stands on one, or there is no such block.
@@ -113,7 +107,7 @@ impl Candidates {
         let Some(block) = self.blocks.least() else {
             return false;
         };
-        let Some(other) = waits_for(cache, dirty, homes, block) else {
+        let Some(other) = unmet_at(cache, dirty, homes, block, 0) else {
             return false;
         };
         self.park(block, other)
@@ -144,17 +138,5 @@ impl Candidates {
         if self.blocks.count() > 0 {
             self.park_all(cache, dirty, homes);
         }
-    }
-}
-
-/// Makes candidates of the blocks that wait for another one.
-#[inline(always)]
-fn wake_all(blocks: &mut BlockSet, waits: &mut WaitLists, other: u32)
-    requires { length waits.old ≡ length blocks.old }
-    ensures wakes { Wakes (record { blocks = blocks.old; waits = waits.old }) (record { blocks = blocks.new; waits = waits.new }) other }
-    ensures long { length waits.new ≡ length blocks.new }
-{
-    while let Some(block) = waits.pop(other) {
-        blocks.insert(block);
     }
 }

@@ -17,7 +17,7 @@ const MOST_SLOTS: usize = 1 << 18;
 /// is its lowest bits, with no division.
 #[derive(Drop)]
 pub struct Homes {
-    slots: ReservedRow<(u64, u32)>,
+    pub(crate) slots: ReservedRow<(u64, u32)>,
 }
 
 impl Model for Homes {
@@ -40,13 +40,6 @@ impl Homes {
         Ok(Homes {
             slots: ReservedRow::new(alloc, count, (0, 0))?,
         })
-    }
-
-    /// How many slots there are.
-    pub fn slots(&self) -> usize
-        ensures { result ≡ length self.now }
-    {
-        self.slots.places()
     }
 
     /// The slot of a number.

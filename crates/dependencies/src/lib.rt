@@ -13,7 +13,6 @@ mod oldest;
 mod safe;
 mod unmet;
 mod wait_lists;
-mod waiting;
 
 pub use counts::TakenOut;
 pub use index::Index;

@@ -52,7 +52,7 @@ fn next_pending(cache: &Cache, homes: &Homes, fs: Fs, from: u64) -> u64
     ensures from { from ≤ result }
     ensures stops { result < min (from + length homes.now) (2 ^ 64 - 1) → MayPend cache.now homes.now fs.number result }
 {
-    let end = from.saturating_add(homes.slots() as u64);
+    let end = from.saturating_add(homes.slots.places() as u64);
     for number in from..end {
         if !is_past(cache, homes, fs, number) {
             return number;
@@ -87,6 +87,7 @@ pub fn note_number(oldest: &mut [u64; 32], fs: Fs, number: u64, pending: u32)
 }
 
 /// Moves the number of a file system on, some entries of which are pending no longer.
+#[inline(never)]
 pub fn move_on(oldest: &mut [u64; 32], cache: &Cache, homes: &Homes, fs: Fs)
     requires homes { AreHomes cache.now homes.now }
     requires oldest { AreOldest cache.now oldest.old }

@@ -145,3 +145,9 @@ pub patch_at : (ps : List Patch) (i : ℕ) (p : Patch) → i < length ps → p �
 patch_at [] i p within is all = absurd (omega arith)
 patch_at (q ∷ ps) zero p within is all = ap is_patch is ∙ (and_parts (is_patch q) (list_all is_patch ps) all).0
 patch_at (q ∷ ps) (suc i) p within is all = patch_at ps i p (omega arith) is (and_parts (is_patch q) (list_all is_patch ps) all).1
+
+-- what undoes one patch alone
+pub undo_of_one : (m : List ℕ) (ps : List Patch) (p : Patch) → length ps ≡ 1 → p ≡ get_or ps 0 p → undo_at m p ∷ [] ≡ undo_of m ps
+undo_of_one m [] p one is = absurd (omega (arith, one))
+undo_of_one m (q ∷ []) p one is = ap (λ (r : Patch). undo_at m r ∷ []) is
+undo_of_one m (q ∷ r ∷ ps) p one is = absurd (omega (arith, one))

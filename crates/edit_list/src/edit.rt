@@ -6,7 +6,7 @@ ghost use Rattle.edit_list.specs.Undo.{undo_of};
 
 use crate::edit_id::EditId;
 use crate::patch::Patch;
-use crate::patches;
+use crate::patches::{are_within_limits, undo_of_any, undo_of_short};
 use crate::undo::Undo;
 use std::alloc::{AllocError, Global};
 use std::marker::Model;
@@ -71,9 +71,7 @@ impl Edit {
     pub fn is_within_limits(&self) -> bool
         ensures { result ≡ within_limits self.now }
     {
-        patches::are_within_limits(&self.patches)
-            && self.adds.len() <= 16
-            && self.drops.len() <= 128
+        are_within_limits(&self.patches) && self.adds.len() <= 16 && self.drops.len() <= 128
     }
 
     /// Writes its patches into a block, in their order.
@@ -81,7 +79,9 @@ impl Edit {
         requires { IsTrue (within_limits self.now) }
         ensures { bytes.new ≡ patched bytes.old self.now.patches }
     {
-        patches::apply(&self.patches, bytes);
+        for patch in self.patches.as_slice() {
+            patch.apply(bytes);
+        }
     }
 
     /// What undoes the edit of a block that has these bytes before it: for each of its patches, in their order, a piece at the
@@ -91,6 +91,10 @@ impl Edit {
         ensures pieces { IfOk result (λ undo. undo ≡ undo_of bytes.now self.now.patches) }
         ensures undone { IfOk result (λ undo. patched (patched bytes.now self.now.patches) undo ≡ bytes.now) }
     {
-        patches::undo_of(alloc, &self.patches, bytes)
+        let patches = self.patches.as_slice();
+        if patches.len() == 1 && patches[0].is_short() {
+            return Ok(undo_of_short(alloc, &patches[0], bytes));
+        }
+        undo_of_any(alloc, patches, bytes)
     }
 }

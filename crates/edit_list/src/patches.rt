@@ -2,7 +2,7 @@
 
 ghost use Rattle.std.specs.Prelude.{◌≡◌, ◌≤◌, [], ◌∷◌, length, IfOk, IsTrue, sum_by};
 ghost use Rattle.std.specs.List.{list_all};
-ghost use Rattle.xn_model.specs.Calls.{is_patch, patched};
+ghost use Rattle.xn_model.specs.Calls.{is_patch};
 ghost use Rattle.edit_list.specs.Limits.{are_within_limits};
 ghost use Rattle.edit_list.specs.Undo.{undo_at, undo_of};
 
@@ -52,37 +52,9 @@ pub fn total_length(patches: &[Patch]) -> usize
     total
 }
 
-/// Writes the patches into a block, in their order.
-pub fn apply(patches: &[Patch], bytes: &mut [u8; BLOCK_LEN])
-    requires { IsTrue (list_all is_patch patches.now) }
-    ensures { bytes.new ≡ patched bytes.old patches.now }
-{
-    for patch in patches {
-        patch.apply(bytes);
-    }
-}
-
-/// What undoes the patches of a block with these bytes: for each of them, in their order, what the block has at its place.
+/// What undoes a patch of at most 16 bytes of a block with these bytes.
 #[inline(always)]
-pub fn undo_of(
-    alloc: Global,
-    patches: &[Patch],
-    bytes: &[u8; BLOCK_LEN],
-) -> Result<Undo, AllocError>
-    requires few { length patches.now ≤ 8 }
-    requires are_patches { IsTrue (list_all is_patch patches.now) }
-    requires short { sum_by (λ p. length p.bytes) patches.now ≤ 512 }
-    ensures { IfOk result (λ undo. undo ≡ undo_of bytes.now patches.now) }
-{
-    if patches.len() == 1 && patches[0].is_short() {
-        return Ok(undo_of_short(alloc, &patches[0], bytes));
-    }
-    undo_of_any(alloc, patches, bytes)
-}
-
-/// What undoes a patch of at most 16 bytes.
-#[inline(always)]
-fn undo_of_short(alloc: Global, patch: &Patch, bytes: &[u8; BLOCK_LEN]) -> Undo
+pub fn undo_of_short(alloc: Global, patch: &Patch, bytes: &[u8; BLOCK_LEN]) -> Undo
     requires is_patch { IsTrue (is_patch patch.now) }
     requires short { length patch.now.bytes ≤ 16 }
     ensures { result ≡ undo_at bytes.now patch.now ∷ [] }
@@ -90,8 +62,8 @@ fn undo_of_short(alloc: Global, patch: &Patch, bytes: &[u8; BLOCK_LEN]) -> Undo
     Undo::of_short(alloc, patch.offset, patch.overwritten(bytes))
 }
 
-/// What undoes any patches.
-fn undo_of_any(
+/// What undoes any patches of a block with these bytes: for each of them, in their order, what the block has at its place.
+pub fn undo_of_any(
     alloc: Global,
     patches: &[Patch],
     bytes: &[u8; BLOCK_LEN],

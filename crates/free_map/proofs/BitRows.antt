@@ -72,6 +72,29 @@ lowest_of words w b few set low blank =
           ];
     }
 
+-- the lowest bit of a word that has some
+pub lowest_in_word : (words : List ℕ) (w n : ℕ) → n < 2 ^ 64 → 0 < n → n ≡ get_or words w 0 → IsLowestIn words w (64 * w + trailing_zeros w64 n)
+lowest_in_word words w n fits some is =
+    let zeros = bit_at-trailing_zeros w64 n some fits in
+    let b = trailing_zeros w64 n in
+    let word : (64 * w + b) / 64 ≡ w = omega (arith, zeros.0) in
+    let rest : (64 * w + b) % 64 ≡ b = omega (arith, zeros.0) in
+    record {
+      here = word;
+      set = is_set words (64 * w + b) ((λ i. bit_at (get_or words (word i) 0) (rest i)) ∙ (ap (λ v. bit_at v b) (sym is) ∙ zeros.1));
+      lowest = λ k in_word lt.
+          let less : k % 64 < b = omega (arith, lt, in_word) in
+          is_clear words k (ap (λ v. bit_at (get_or words v 0) (k % 64)) in_word ∙ (ap (λ v. bit_at v (k % 64)) (sym is) ∙ zeros.2 (k % 64) less));
+    }
+
+-- the lowest bit of all, in the first word that has some
+pub lowest_in_first : (words : List ℕ) (w n : ℕ) → n < 2 ^ 64 → (n ≡ 0 → ⊥) → n ≡ get_or words w 0 → ((v : ℕ) → v < w → get_or words v 0 ≡ 0) →
+    IsLowest words (64 * w + trailing_zeros w64 n)
+lowest_in_first words w n fits some is blank =
+    let zeros = bit_at-trailing_zeros w64 n (omega (arith, some)) fits in
+    lowest_of words w (trailing_zeros w64 n) zeros.0 (ap (λ v. bit_at v (trailing_zeros w64 n)) (sym is) ∙ zeros.1)
+    (λ k lt. ap (λ v. bit_at v k) (sym is) ∙ zeros.2 k lt) blank
+
 pub none_of : (words : List ℕ) → ((w : ℕ) → w < length words → get_or words w 0 ≡ 0) → HasNone words
 none_of words blank k =
     elim (cases_lt (k / 64) (length words)) [

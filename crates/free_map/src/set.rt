@@ -1,6 +1,6 @@
 // A set of block numbers.
 
-ghost use Rattle.std.specs.Prelude.{◌≡◌, ℕ, ◌<◌, ◌≤◌, ◌^◌, Bool, true, false, length, replicate, count_by, position, unwrap_or, slice_get, slice_set, IfOk};
+ghost use Rattle.std.specs.Prelude.{◌≡◌, ◌<◌, Bool, true, false, length, replicate, count_by, position, unwrap_or, slice_get, slice_set, IfOk};
 ghost use Rattle.std.specs.Prelude.{IfSome, IfNone};
 ghost use Rattle.free_map.specs.Members.{is_member, IsLeastFrom, HasNoneFrom};
 
@@ -75,7 +75,7 @@ impl BlockSet {
     pub fn contains(&self, block: u32) -> bool
         ensures { result ≡ unwrap_or (slice_get self.now block) false }
     {
-        self.words.has(block as usize)
+        block < self.bound && self.words.has(block as usize)
     }
 
     /// The least member.
@@ -108,7 +108,7 @@ impl BlockSet {
         ensures { self.new ≡ slice_set self.old block true }
     {
         let at = block as usize;
-        if !self.words.has_within(at) {
+        if !self.words.has(at) {
             self.words.put(at, true);
             self.filled.put(at / 64, true);
             self.count += 1;
@@ -121,7 +121,7 @@ impl BlockSet {
         ensures { self.new ≡ slice_set self.old block false }
     {
         let at = block as usize;
-        if self.words.has_within(at) {
+        if self.words.has(at) {
             self.words.put(at, false);
             let is_blank = self.words.is_blank(at / 64);
             self.filled.put(at / 64, !is_blank);

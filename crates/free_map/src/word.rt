@@ -41,16 +41,6 @@ pub fn first_bits(count: u32) -> u64
     (1 << count) - 1
 }
 
-/// The lowest bit of a word that has some bit.
-pub fn lowest_bit(word: u64) -> u32
-    requires { 0 < word }
-    ensures within { result < 64 }
-    ensures set { bit_at word result ≡ 1 }
-    ensures lowest { (k : ℕ) → k < result → bit_at word k ≡ 0 }
-{
-    word.trailing_zeros()
-}
-
 /// The lowest bit of a word that is not below `from`, if there is one.
 pub fn lowest_bit_from(word: u64, from: u32) -> Option<u32>
     requires { from < 64 }

@@ -45,18 +45,8 @@ impl Words {
         Ok(Words { words })
     }
 
-    /// Whether a bit is set.
-    pub fn has(&self, at: usize) -> bool
-        ensures { result ≡ has_bit self.now at }
-    {
-        match self.words.get(at / 64) {
-            Some(word) => word::has_bit(*word, (at % 64) as u32),
-            None => false,
-        }
-    }
-
     /// Whether a bit of the row is set.
-    pub fn has_within(&self, at: usize) -> bool
+    pub fn has(&self, at: usize) -> bool
         requires { at < 64 * length self.now }
         ensures { result ≡ has_bit self.now at }
     {
@@ -106,7 +96,7 @@ impl Words {
         requires few { length self.now ≤ 2 ^ 32 }
         ensures { IsLowestIn self.now at result }
     {
-        64 * at + word::lowest_bit(self.words[at]) as usize
+        64 * at + self.words[at].trailing_zeros() as usize
     }
 
     /// The lowest bit of all.
@@ -117,7 +107,7 @@ impl Words {
     {
         for (at, word) in self.words.iter().enumerate() {
             if *word != 0 {
-                return Some(64 * at + word::lowest_bit(*word) as usize);
+                return Some(64 * at + word.trailing_zeros() as usize);
             }
         }
         None

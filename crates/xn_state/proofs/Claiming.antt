@@ -1,6 +1,6 @@
 -- What edits may claim, by the tests that they passed, and the claims of an edit, read off the statuses.
 use Rattle.std.proofs.Common.{◌≡◌, ℕ, ◌<◌, Bool, true, false, not, ◌&&◌, List, [], ◌∷◌, length, Option, Some, None, Ok, refl, sym, ◌∙◌, ap, arith, inl, inr, subst}
-use Rattle.std.specs.Prelude.{Contains, is_some, ◌==◌}
+use Rattle.std.specs.Prelude.{Contains, is_some, slice_index, ◌==◌}
 use Rattle.std.specs.List.{list_all}
 use Rattle.std.proofs.lemmas.Bool.{and_parts, eqb-false, ne_eqb, not-false}
 use Rattle.std.proofs.lemmas.List.Elements.{Contains-append_right}
@@ -15,10 +15,10 @@ use Rattle.xn_model.specs.Calls.{Edit, own_life, too_many, exhausted, within_lim
 use Rattle.xn_model.specs.Rules.{IsConsistent}
 use Rattle.xn_model.proofs.ForCallers.{Contains-cons, Contains-none, all_at, blocks_of_at, own_then, roots_from, same_ok, unless_ok}
 use Rattle.claims.specs.Owners.{is_claimed, owned_count}
-use Rattle.claims.proofs.ForCallers.{claimed_is, owned_counted, pair_owned}
+use Rattle.claims.proofs.ForCallers.{alive_place, claimed_is, owned_counted, pair_owned}
 use Rattle.block_cache.specs.declared.life.Facts.{Facts}
 use Rattle.block_cache.specs.Views.{facts_of}
-use Rattle.claims.specs.Owned.{MayClaim}
+use Rattle.claims.specs.Owned.{AreOwnedCounts, MayClaim}
 use Rattle.xn_state.specs.Proposals.{drop_root_plan, edited_with, proposed_at, proposed_of}
 use Rattle.xn_state.proofs.Forgetting.{own_is}
 
@@ -101,6 +101,13 @@ empty_is T state c h = by (life_at state.lives c) refl
     by : (o : Option Life) → life_at state.lives c ≡ o → alive_and (λ l. owns_nothing T l.ty (current l)) o ≡ (is_some o && (owned_count state.lives c == 0))
     by None here = refl
     by (Some l) here = nothing_is (T.owned l.ty (current l)) ∙ ap (λ n. n == 0) (owned_counted T state c l h here)
+
+-- the same by how many blocks each block owns
+pub counted_empty : (T : Types) (state : StoreState) (counts : List ℕ) (c : ℕ) → IsConsistent T state → AreOwnedCounts counts state.lives → is_some (life_at state.lives c) ≡ true →
+    (slice_index counts c == 0) ≡ is_empty T state c
+counted_empty T state counts c h counted some =
+    ap (λ n. n == 0) (counted.each c (alive_place state.lives c some))
+    ∙ ((λ i. sym some i && (owned_count state.lives c == 0)) ∙ sym (empty_is T state c h))
 
 -- The claim of an edit
 

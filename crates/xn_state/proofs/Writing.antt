@@ -1,10 +1,11 @@
 -- What the facts and the bytes of a block say of its writes.
 use Rattle.std.proofs.Common.{◌≡◌, ℕ, ◌≤◌, Bool, true, false, List, [], ◌∷◌, length, Option, Some, None, Result, Ok, Err, refl, slice_get, sym, ◌∙◌, ap, arith, subst}
-use Rattle.std.specs.Prelude.{bytes_eq, if◌then◌else◌, is_some, option_map, unwrap_or, IfSome, ◌==◌}
+use Rattle.std.specs.Prelude.{bytes_eq, if◌then◌else◌, is_some, option_map, unwrap_or, IfSome, IsTrue, ◌==◌, ◌||◌}
 use Rattle.std.specs.List.{last_or}
 use Rattle.std.proofs.lemmas.List.{take_all}
 use Rattle.std.proofs.lemmas.Slice.Eq.{bytes_eq-Decides}
-use Rattle.std.proofs.lemmas.Bool.{ne_eqb}
+use Rattle.std.proofs.Math.Bool.{or-true}
+use Rattle.std.proofs.lemmas.Bool.{lt-ltb, ne_eqb}
 use Rattle.std.proofs.lemmas.Option.{none-some, same_Some}
 use Rattle.xn_model.specs.Lives.{Life, Lives, StoreState, alive_and, begun_at, bytes_of, current, life_at, prefix_of}
 use Rattle.store_types.specs.declared.refusal.Refusal.{Refusal}
@@ -14,7 +15,7 @@ use Rattle.xn_model.specs.Calls.{begun_of, begun_place, bytes_at, is_durable, li
 use Rattle.xn_model.specs.Rules.{IsCount}
 use Rattle.xn_model.proofs.ForCallers.{change_same, never_ok, same_ok, unless_passed}
 use Rattle.block_cache.specs.declared.life.Facts.{Facts}
-use Rattle.block_cache.specs.Views.{facts_of, image_at}
+use Rattle.block_cache.specs.Views.{HasImage, facts_of, image_at}
 use Rattle.xn_state.proofs.Lasts.{image_of_some}
 
 -- the place of a block in use
@@ -63,6 +64,12 @@ begun_has lives b k count few = subst (λ (o : Option Life). count ≤ life_pend
     has : (o : Option Life) → count ≤ life_pending o → count ≤ life_pending (option_map (begun_with k) o)
     has None few = few
     has (Some l) few = few
+
+-- a block of which some entries are pending is in use, and some bytes stand where the first of them are done
+pub has_image : (o : Option Life) (count : ℕ) → 1 ≤ count → count ≤ life_pending o → IsTrue (is_some o) × IfSome o (HasImage count)
+has_image None count some within = absurd (omega (arith, some, within))
+has_image (Some l) count some within =
+    (refl, record { within = within; some = ap (λ (t : Bool). is_some l.durable || t) (lt-ltb 0 count some) ∙ or-true (is_some l.durable) })
 
 pub begun_image : (lives : Lives) (b k : ℕ) (bytes : List ℕ) → IfSome (life_at (begun_at lives b k) b) (λ l. bytes ≡ image_at k l) → IfSome (life_at lives b) (λ l. bytes ≡ image_at k l)
 begun_image lives b k bytes image = of (life_at lives b) (subst (λ (o : Option Life). IfSome o (λ l. bytes ≡ image_at k l)) (change_same lives b (begun_with k)) image)

@@ -1,25 +1,19 @@
 // The lives of all blocks, with what is counted of them.
 
-ghost use Rattle.std.specs.Prelude.{◌≡◌, ℕ, ◌^◌, ◌<◌, ◌≤◌, ◌&&◌, ◌==◌, All, false, length, map, Option, Some, None, IfOk, IfSome, IsTrue, OnOk};
-ghost use Rattle.std.specs.Prelude.{OnErr, is_some, is_none, count_by, option_map, position, slice_get, slice_set, sum_by};
-ghost use Rattle.std.specs.Option.{option_copied};
+ghost use Rattle.std.specs.Prelude.{◌≡◌, ℕ, ◌^◌, ◌<◌, ◌≤◌, All, false, length, map, Option, Some, None, IfOk, IfSome, IsTrue, OnOk};
+ghost use Rattle.std.specs.Prelude.{OnErr, is_some, slice_get, slice_set, sum_by};
 ghost use Rattle.xn_model.specs.Lists.{distinct};
-ghost use Rattle.xn_model.specs.Lives.{accepted_at, alive_and, chain_end, current, dropped_after, entries_of, is_for, least_to, life_at, lowest_free};
+ghost use Rattle.xn_model.specs.Lives.{accepted_at, dropped_after, is_for, life_at, lowest_free};
 ghost use Rattle.xn_model.specs.Lives.{owned_after};
-ghost use Rattle.xn_model.specs.Results.{result_map};
-ghost use Rattle.xn_model.specs.Calls.{is_ready, is_tainted, life_bytes, life_pending, new_life, own_place, patched, pending_in};
-ghost use Rattle.xn_model.specs.PendingIn.{newest_entry};
+ghost use Rattle.xn_model.specs.Calls.{life_bytes, life_pending, new_life, own_place, patched, pending_in};
 ghost use Rattle.xn_model.specs.Images.{blocks_in, most_blocks};
 ghost use Rattle.block_cache.specs.Systems.{system_of};
 ghost use Rattle.block_cache.specs.Claims.{claimed_state};
 ghost use Rattle.block_cache.specs.NewBytes.{AreWithinLimits, new_bytes};
-ghost use Rattle.block_cache.specs.Views.{facts_of};
 ghost use Rattle.xn_model.specs.Mounts.{found_status};
 ghost use Rattle.claims.specs.Owners.{is_claimed, owned_count};
 ghost use Rattle.claims.specs.Owned.{MayClaim};
-ghost use Rattle.dependencies.specs.Awaits.{awaited_in};
 ghost use Rattle.dependencies.specs.Pending.{pends};
-ghost use Rattle.dependencies.specs.Typed.{FindsTypes};
 ghost use Rattle.xn_state.specs.Mounts.{found_life_of, lives_in};
 
 use crate::found::Found;
@@ -34,16 +28,15 @@ use std::marker::Model;
 use store_types::{BLOCK_LEN, Refusal, Status};
 
 mod forget;
-mod idle;
 mod install;
 mod writes;
 
 /// The lives of all blocks, by block number. What is known of their pending entries, of the free blocks, and of how many blocks each
 /// block owns is kept beside them, so that no call walks all lives for it.
 pub struct Lives {
-    cache: Cache,
-    owned: OwnedCounts,
-    index: Index,
+    pub(crate) cache: Cache,
+    pub(crate) owned: OwnedCounts,
+    pub(crate) index: Index,
 }
 
 impl Model for Lives {
@@ -97,20 +90,6 @@ impl Lives {
         })
     }
 
-    /// How many blocks there are.
-    pub fn blocks(&self) -> u32
-        ensures { result ≡ length self.now }
-    {
-        self.cache.blocks()
-    }
-
-    /// The life of a block, unless it is free or past the end.
-    pub fn live(&self, block: u32) -> Option<LiveBlock<'_>>
-        ensures { result ≡ life_at self.now block }
-    {
-        self.cache.live(block)
-    }
-
     /// The life of a block that a file system may use: refused are a block past the end, a free or dropped one, and one of another file
     /// system or of nobody.
     pub fn own(&self, fs: Fs, block: u32) -> Result<LiveBlock<'_>, Refusal>
@@ -132,61 +111,6 @@ impl Lives {
         Ok(life)
     }
 
-    /// The number of the newest pending entry of a block.
-    pub fn newest_entry(&self, block: u32) -> Option<EditId>
-        ensures { result ≡ newest_entry (life_at self.now block) }
-    {
-        let life = self.cache.live(block)?;
-        let count = life.facts().pending;
-        if count == 0 {
-            return None;
-        }
-        Some(life.claim(count - 1)?.entry())
-    }
-
-    /// How many pending entries count for a file system.
-    pub fn pending_for(&self, fs: Fs) -> u32
-        ensures { result ≡ sum_by (pending_in fs.number) self.now }
-    {
-        self.index.pending_for(fs)
-    }
-
-    /// The least of a number and the pending entries that count for a file system.
-    #[inline(always)]
-    pub fn least_for(&self, fs: Fs, most: u64) -> u64
-        ensures { result ≡ least_to most (entries_of fs.number self.now) }
-    {
-        self.index.least_for(&self.cache, fs, most)
-    }
-
-    /// The least free block.
-    pub fn lowest_free(&self) -> Option<u32>
-        ensures { result ≡ lowest_free self.now }
-    {
-        self.index.lowest_free()
-    }
-
-    /// How many blocks are free.
-    pub fn free(&self) -> u32
-        ensures { result ≡ count_by is_none self.now }
-    {
-        self.index.free()
-    }
-
-    /// Whether a block is in use and owns no other.
-    pub fn owns_none(&self, block: u32) -> bool
-        ensures { result ≡ (is_some (life_at self.now block) && (owned_count self.now block == 0)) }
-    {
-        self.cache.live(block).is_some() && self.owned.count(block) == 0
-    }
-
-    /// The block at which the chain of owners of a block ends: the block itself, if it has no owner.
-    pub fn chain_end(&self, block: u32) -> u32
-        ensures { result ≡ chain_end self.now block }
-    {
-        claims::chain_end(&self.cache, block)
-    }
-
     /// Whether these pairs are those that a block owns without the drops and with the adds, by the statuses.
     pub fn is_claimed(
         &self,
@@ -200,31 +124,6 @@ impl Lives {
     {
         let owns = self.owned.count(block);
         claims::is_claimed(&self.cache, block, owns, pairs, adds, drops)
-    }
-
-    /// Whether some pending entry of a block may not be written yet.
-    pub fn is_tainted(&self, block: u32) -> bool
-        requires { FindsTypes self.now }
-        ensures { result ≡ is_tainted self.now (life_at self.now block) }
-    {
-        self.index.is_tainted(&self.cache, block)
-    }
-
-    /// The block that the first entry of a block waits for which may not be written yet.
-    pub fn awaited(&self, block: u32) -> Option<u32>
-        requires { FindsTypes self.now }
-        ensures block { result ≡ awaited_in self.now (life_at self.now block) }
-        ensures waits { is_some result ≡ is_tainted self.now (life_at self.now block) }
-    {
-        self.index.awaited(&self.cache, block)
-    }
-
-    /// The least block of which a write may begin.
-    pub fn pick(&self) -> Option<u32>
-        requires { FindsTypes self.now }
-        ensures { result ≡ position (is_ready self.now) self.now }
-    {
-        self.index.pick(&self.cache)
     }
 
     /// Starts a life on the least free block, a file system's or nobody's.

@@ -1,8 +1,7 @@
 // The state of a store, and the calls that need no disk.
 
-ghost use Rattle.std.specs.Prelude.{◌≡◌, ◌<◌, ◌≤◌, [], ◌∷◌, length, Option, Some, None, is_some, Ok, IfOk, IfSome, IsTrue, option_map, unwrap_or};
+ghost use Rattle.std.specs.Prelude.{◌≡◌, ◌<◌, ◌≤◌, Option, Some, None, is_some, Ok, IfOk, IsTrue, option_map, unwrap_or};
 ghost use Rattle.std.specs.Option.{option_copied};
-ghost use Rattle.block_cache.specs.Views.{image_at};
 ghost use Rattle.xn_model.specs.Types.{within_size};
 ghost use Rattle.xn_model.specs.Lists.{blank};
 ghost use Rattle.xn_model.specs.Lives.{StoreState, current, life_at, alive_and};
@@ -85,7 +84,7 @@ impl State {
     {
         table.rules();
         let lives = Lives::found(alloc, image, found)?;
-        let reads = ReservedRow::new(alloc, lives.blocks() as usize, None)?;
+        let reads = ReservedRow::new(alloc, lives.cache.blocks() as usize, None)?;
         Ok(State {
             alloc,
             table,
@@ -113,7 +112,7 @@ impl State {
     fn is_too_many(&self, fs: Fs, in_block: usize) -> bool
         ensures { result ≡ too_many self.now fs.number in_block }
     {
-        in_block >= MAX_PENDING_IN_BLOCK || self.lives.pending_for(fs) >= MAX_PENDING
+        in_block >= MAX_PENDING_IN_BLOCK || self.lives.index.pending_for(fs) >= MAX_PENDING
     }
 
     /// The first refusal of `init` that applies.
@@ -163,7 +162,8 @@ impl State {
         if let Some(refusal) = self.init_refusal(fs, ty, bytes) {
             return Err(refusal);
         }
-        let Some(block) = self.lives.lowest_free() else {
+        let lives = &self.lives;
+        let Some(block) = lives.index.lowest_free() else {
             return Err(Refusal::NoSpace);
         };
         let number = EditId(self.next);
@@ -192,7 +192,21 @@ impl State {
         ensures count { result ≡ result_map (λ begun. begun.0.1) (begun_of self.now block) }
         ensures within { IfOk result (λ count. (1 ≤ count) × (count ≤ life_pending (life_at self.now.lives block))) }
     {
-        self.lives.begun(block)
+        let lives = &self.lives;
+        if block >= lives.cache.blocks() {
+            return Err(Refusal::NoSuchBlock);
+        }
+        let Some(life) = lives.cache.live(block) else {
+            return Err(Refusal::NotInUse);
+        };
+        if life.facts().begun.is_some() {
+            return Err(Refusal::InFlight);
+        }
+        let count = lives.index.safe_prefix(&lives.cache, block, Some(&life));
+        if count == 0 {
+            return Err(Refusal::NothingSafe);
+        }
+        Ok(count)
     }
 
     /// Begins a write of a block, where so many of its first pending entries may be written: the bytes that they leave. They come last, so
@@ -205,7 +219,8 @@ impl State {
         ensures { begun_of self.old block ≡ Ok ((result, count), self.new) }
     {
         self.lives.begin(block, count);
-        self.lives.image(block, count)
+        let lives = &self.lives;
+        lives.cache.image(block, count)
     }
 
     /// Ends a write of a block by the bytes that are read back: how many entries are durable now,
@@ -233,7 +248,7 @@ impl State {
     pub fn newest(&self, block: u32) -> Option<&[u8; BLOCK_LEN]>
         ensures { option_copied result ≡ option_map current (life_at self.now.lives block) }
     {
-        Some(self.lives.live(block)?.current())
+        Some(self.lives.cache.live(block)?.current())
     }
 
     /// The life of block 0, which is always in use.
@@ -241,7 +256,7 @@ impl State {
         ensures alive { life_at self.now.lives 0 ≡ Some result }
         ensures rules { IsConsistent (own_types self.now) self.now }
     {
-        let Some(root) = self.lives.live(0) else {
+        let Some(root) = self.lives.cache.live(0) else {
             unreachable!()
         };
         root
@@ -251,8 +266,8 @@ impl State {
     pub fn is_in_flight(&self, block: u32) -> bool
         ensures { result ≡ alive_and (λ l. is_some l.begun) (life_at self.now.lives block) }
     {
-        match self.lives.live(block) {
-            Some(life) => life.facts().is_in_flight(),
+        match self.lives.cache.live(block) {
+            Some(life) => life.facts().begun.is_some(),
             None => false,
         }
     }
@@ -262,7 +277,7 @@ impl State {
     pub fn floor(&self, fs: Fs) -> u64
         ensures { result ≡ floor_of self.now fs.number }
     {
-        self.lives.least_for(fs, self.next)
+        self.lives.index.least_for(&self.lives.cache, fs, self.next)
     }
 }
 

@@ -107,7 +107,8 @@ impl Index {
             return false;
         };
         let first = life.claim(0);
-        !life.facts().is_in_flight() && is_safe_at(cache, &self.dirty, &self.homes, block, 0, first)
+        life.facts().begun.is_none()
+            && is_safe_at(cache, &self.dirty, &self.homes, block, 0, first)
     }
 
     /// The least block of which a write may begin. The walk is over the candidates, and ends with the first that is ready.
@@ -119,7 +120,7 @@ impl Index {
         let blocks = cache.blocks();
         let mut from = 0;
         while from < blocks {
-            let block = self.candidates.least_from(from)?;
+            let block = self.candidates.blocks.least_from(from)?;
             if self.is_ready(cache, block) {
                 return Some(block);
             }

@@ -125,18 +125,7 @@ impl Index {
         ensures rest { self.new ≡ record self.old { oldest = self.new.oldest } }
     {
         if let Some(fs) = with_pending(&self.pending, fs) {
-            self.move_on_for(cache, fs);
+            move_on(&mut self.oldest, cache, &self.homes, fs);
         }
-    }
-
-    /// The same for a file system.
-    #[inline(never)]
-    fn move_on_for(&mut self, cache: &Cache, fs: Fs)
-        requires { IsIndex cache.now self.old }
-        ensures index { IsIndex cache.now self.new }
-        ensures moves { MovesOn cache.now self.old.homes fs.number self.old.oldest self.new.oldest }
-        ensures rest { self.new ≡ record self.old { oldest = self.new.oldest } }
-    {
-        move_on(&mut self.oldest, cache, &self.homes, fs);
     }
 }

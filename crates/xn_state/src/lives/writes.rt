@@ -1,12 +1,10 @@
 // The writes of blocks.
 
-ghost use Rattle.std.specs.Prelude.{◌≡◌, ◌≢◌, ◌≤◌, ℕ, [], Ok, false, All, IfOk, IfSome, OnErr, bytes_eq, is_some, length, slice_get, unwrap_or};
+ghost use Rattle.std.specs.Prelude.{◌≡◌, ◌≢◌, ◌≤◌, ℕ, [], Ok, false, All, IfOk, OnErr, length, slice_get, unwrap_or};
 ghost use Rattle.std.specs.Option.{option_copied};
 ghost use Rattle.xn_model.specs.Lives.{begun_at, current, drops_of, freed, life_at, settled_at};
 ghost use Rattle.xn_model.specs.Results.{result_map};
-ghost use Rattle.xn_model.specs.Calls.{begun_place, first_pending, life_bytes, life_pending, settled_count, settled_place};
-ghost use Rattle.block_cache.specs.Views.{image_at};
-ghost use Rattle.dependencies.specs.Typed.{FindsTypes};
+ghost use Rattle.xn_model.specs.Calls.{first_pending, life_bytes, life_pending, settled_count, settled_place};
 ghost use Rattle.dependencies.specs.Index.{MayFree};
 
 use crate::lives::Lives;
@@ -14,39 +12,6 @@ use block_cache::{Cache, LiveBlock};
 use store_types::{BLOCK_LEN, Refusal};
 
 impl Lives {
-    /// How many entries a write of a block carries that begins now.
-    #[inline(always)]
-    pub fn begun(&self, block: u32) -> Result<u32, Refusal>
-        requires { FindsTypes self.now }
-        ensures plan { result ≡ result_map (λ begun. begun.1) (begun_place self.now (slice_get self.now block)) }
-        ensures within { IfOk result (λ count. (1 ≤ count) × (count ≤ life_pending (life_at self.now block))) }
-    {
-        if block >= self.cache.blocks() {
-            return Err(Refusal::NoSuchBlock);
-        }
-        let Some(life) = self.cache.live(block) else {
-            return Err(Refusal::NotInUse);
-        };
-        if life.facts().is_in_flight() {
-            return Err(Refusal::InFlight);
-        }
-        let count = self.index.safe_prefix(&self.cache, block, Some(&life));
-        if count == 0 {
-            return Err(Refusal::NothingSafe);
-        }
-        Ok(count)
-    }
-
-    /// What the first pending entries of a block leave.
-    #[inline(always)]
-    pub fn image(&self, block: u32, count: u32) -> [u8; BLOCK_LEN]
-        requires some { 1 ≤ count }
-        requires within { count ≤ life_pending (life_at self.now block) }
-        ensures { IfSome (life_at self.now block) (λ l. result ≡ image_at count l) }
-    {
-        self.cache.image(block, count)
-    }
-
     /// Begins a write of a block that carries its first entries.
     #[inline(always)]
     pub fn begin(&mut self, block: u32, count: u32)

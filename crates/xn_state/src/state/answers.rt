@@ -54,14 +54,14 @@ impl State {
     pub fn pending(&self, fs: Fs) -> u32
         ensures { result ≡ pending_of self.now fs.number }
     {
-        self.lives.pending_for(fs)
+        self.lives.index.pending_for(fs)
     }
 
     /// How many entries of a block are pending.
     pub fn pending_in(&self, block: u32) -> u32
         ensures { result ≡ pending_in_of self.now block }
     {
-        match self.lives.live(block) {
+        match self.lives.cache.live(block) {
             Some(life) => life.facts().pending as u32,
             None => 0,
         }
@@ -71,6 +71,11 @@ impl State {
     pub fn newest_entry(&self, block: u32) -> Option<EditId>
         ensures { result ≡ newest_entry_of self.now block }
     {
-        self.lives.newest_entry(block)
+        let life = self.lives.cache.live(block)?;
+        let count = life.facts().pending;
+        if count == 0 {
+            return None;
+        }
+        Some(life.claim(count - 1)?.entry())
     }
 }

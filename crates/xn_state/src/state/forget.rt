@@ -1,7 +1,6 @@
 // A client ends the life of a block that nobody owns.
 
 ghost use Rattle.std.specs.Prelude.{◌≡◌};
-ghost use Rattle.xn_model.specs.Lives.{StoreState};
 ghost use Rattle.xn_model.specs.Results.{GivesExactly};
 ghost use Rattle.xn_model.specs.Calls.{forget_of};
 ghost use Rattle.xn_state.specs.Forgets.{forget_plan, are_untouched};
@@ -27,7 +26,7 @@ impl State {
         if !is_untouched(facts) {
             return Err(Refusal::TooManyPending);
         }
-        if facts.is_in_flight() {
+        if facts.begun.is_some() {
             return Err(Refusal::InFlight);
         }
         Ok(())

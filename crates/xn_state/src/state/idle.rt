@@ -12,13 +12,13 @@ impl State {
     pub fn is_any_in_flight(&self) -> bool
         ensures { result ≡ list_any (alive_and (λ l. is_some l.begun)) self.now.lives }
     {
-        self.lives.is_any_in_flight()
+        self.lives.cache.is_any_in_flight()
     }
 
     /// How many entries are pending, of all blocks and file systems.
     pub fn all_pending(&self) -> u32
         ensures { result ≡ all_pending self.now.lives }
     {
-        self.lives.count_pending()
+        self.lives.cache.all_pending() as u32
     }
 }

@@ -1,7 +1,6 @@
 // A template is installed while the store runs.
 
-ghost use Rattle.std.specs.Prelude.{◌≡◌, ◌⊎◌, ◌+◌, ◌<◌, ℕ, None, Ok, IfErr, IfOk, IsTrue, MatchResult, is_some};
-ghost use Rattle.xn_model.specs.Lives.{life_at};
+ghost use Rattle.std.specs.Prelude.{◌≡◌, ◌⊎◌, ◌+◌, ◌<◌, None, Ok, IfErr, IfOk, IsTrue, MatchResult, is_some};
 ghost use Rattle.xn_model.specs.Results.{Gives, result_map};
 ghost use Rattle.xn_model.specs.Root.{with_pointer};
 ghost use Rattle.xn_model.specs.Calls.{install_of, patched, root_now};
@@ -47,7 +46,7 @@ impl State {
         if self.next >= u64::MAX - 1 {
             return Err(Refusal::Exhausted);
         }
-        match self.lives.lowest_free() {
+        match self.lives.index.lowest_free() {
             Some(block) => Ok((place, block)),
             None => Err(Refusal::NoSpace),
         }

@@ -18,7 +18,7 @@ ghost use Rattle.xn_state.specs.States.{own_types};
 use crate::state::accept::Claims;
 use crate::state::{State, is_within_size};
 use block_cache::{Facts, NewBytes};
-use claims::{are_blocks_distinct, are_distinct, leaves, names, owned_pairs};
+use claims::{are_blocks_distinct, are_distinct, chain_end, leaves, names, owned_pairs};
 use edit_list::{Edit, EditId, Fs, Undo};
 use std::alloc::Global;
 use store_types::{BLOCK_LEN, DATA_TYPE, Refusal};
@@ -46,7 +46,7 @@ impl State {
     fn may_add(&self, fs: Fs, add: (u32, u32)) -> bool
         ensures { result ≡ may_add self.now fs.number add }
     {
-        match self.lives.live(add.0) {
+        match self.lives.cache.live(add.0) {
             Some(life) => {
                 let facts = life.facts();
                 facts.is_fresh() && facts.ty == add.1 && life.is_for(fs)
@@ -59,7 +59,7 @@ impl State {
     fn may_drop(&self, owner: u32, block: u32) -> bool
         ensures { result ≡ may_drop self.now owner block }
     {
-        match self.lives.live(block) {
+        match self.lives.cache.live(block) {
             Some(life) => life.facts().is_owned_by(owner),
             None => false,
         }
@@ -69,7 +69,8 @@ impl State {
     pub(crate) fn is_empty(&self, block: u32) -> bool
         ensures { result ≡ is_empty (own_types self.now) self.now block }
     {
-        self.lives.owns_none(block)
+        let lives = &self.lives;
+        lives.cache.live(block).is_some() && lives.owned.count(block) == 0
     }
 
     /// Whether each of these blocks may be added.
@@ -100,7 +101,7 @@ impl State {
     fn closes_cycle(&self, block: u32, adds: &[(u32, u32)]) -> bool
         ensures { result ≡ has_number (blocks_of adds.now) (chain_end self.now.lives block) }
     {
-        !adds.is_empty() && names(adds, self.lives.chain_end(block))
+        !adds.is_empty() && names(adds, chain_end(&self.lives.cache, block))
     }
 
     /// Whether each of these blocks may be dropped.

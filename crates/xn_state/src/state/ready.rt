@@ -11,7 +11,7 @@ impl State {
     pub fn tainted(&self, block: u32) -> bool
         ensures { result ≡ tainted_of self.now block }
     {
-        self.lives.is_tainted(block)
+        self.lives.index.is_tainted(&self.lives.cache, block)
     }
 
     /// The block that the first entry of a block waits for that isn't safe: the first added one that has no state on the disk, or else the
@@ -21,20 +21,20 @@ impl State {
         ensures block { result ≡ awaited_of self.now block }
         ensures waits { is_some result ≡ tainted_of self.now block }
     {
-        self.lives.awaited(block)
+        self.lives.index.awaited(&self.lives.cache, block)
     }
 
     /// How many blocks are free.
     pub fn free(&self) -> u32
         ensures { result ≡ free_of self.now }
     {
-        self.lives.free()
+        self.lives.index.free()
     }
 
     /// The least block of which no write is under way, and some pending entry may be written.
     pub fn pick(&self) -> Option<u32>
         ensures { result ≡ pick_of self.now }
     {
-        self.lives.pick()
+        self.lives.index.pick(&self.lives.cache)
     }
 }

@@ -1,4 +1,4 @@
-use Rattle.std.proofs.Common.{◌∙◌, Some, ap, subst, sym}
+use Rattle.std.proofs.Common.{◌∙◌, Some, ap, not, subst, sym}
 use Rattle.std.specs.Prelude.{option_map}
 use Rattle.xn_model.specs.Lives.{life_at}
 use Rattle.block_cache.specs.Views.{facts_of}
@@ -11,7 +11,7 @@ is_safe_at-requires-clause-homes c =
     let mine = subst (IsIndex c.args.cache.now) (sym c.self.view_is) c.requires.index in
     mine.homes
 
-pub returns-then-not-is_in_flight : goal.returns-then-not-is_in_flight
-returns-then-not-is_in_flight c =
+pub returns-then-is_none : goal.returns-then-is_none
+returns-then-is_none c =
     c.is_safe_at.ensures
-    ∙ ready_at c.args.cache.now (life_at c.args.cache.now c.args.block) c.facts.result (ap (λ f. Some f) c.facts.ensures.facts ∙ ap (option_map facts_of) c.in-Some.ensures) (sym c.is_in_flight.ensures ∙ c.if-not-is_in_flight.true)
+    ∙ ready_at c.args.cache.now (life_at c.args.cache.now c.args.block) c.facts.result (ap (λ f. Some f) c.facts.ensures.facts ∙ ap (option_map facts_of) c.in-Some.ensures) (c.is_none.ensures ∙ ap not c.if-is_none.true)

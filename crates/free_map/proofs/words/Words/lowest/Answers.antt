@@ -1,13 +1,10 @@
-use Rattle.std.proofs.Common.{◌∙◌, subst, arith, List, ℕ, ◌+◌, ◌*◌}
-use Rattle.free_map.specs.Bits.{IsLowest, HasNone}
-use Rattle.free_map.proofs.BitRows.{lowest_of, none_of}
+use Rattle.std.proofs.Common.{◌∙◌, arith, rules, subst}
+use Rattle.free_map.specs.Bits.{HasNone}
+use Rattle.free_map.proofs.BitRows.{lowest_in_first, none_of}
 use Rattle.free_map.proofs.words.Words.lowest.Goals as goal
 
 pub returns-then-word-ne0-clause-some : goal.returns-then-word-ne0-clause-some
-returns-then-word-ne0-clause-some c =
-    let low = lowest_of c.deref-word-items.result.now c.loop-at.at c.lowest_bit.result c.lowest_bit.ensures.within c.lowest_bit.ensures.set c.lowest_bit.ensures.lowest c.loop-at.invariant in
-    let P : List ℕ → Type 0 = λ ws. IsLowest ws (64 * c.loop-at.at + c.lowest_bit.result) in
-    subst P (c.deref-word-items.ensures.value ∙ c.self.view_is) low
+returns-then-word-ne0-clause-some c = search (rules, lowest_in_first c.deref-word-items.result.now c.loop-at.at, c.loop-at.invariant, c.deref-word-items.ensures.value, c.self.view_is)
 
 pub returns-clause-none : goal.returns-clause-none
 returns-clause-none c =

@@ -1,4 +1,4 @@
-use Rattle.std.proofs.Common.{◌∙◌, ap, sym, subst}
+use Rattle.std.proofs.Common.{◌∙◌, ap, length, sym, subst}
 use Rattle.xn_model.specs.Images.{blocks_in}
 use Rattle.xn_model.specs.Lives.{Lives}
 use Rattle.xn_model.specs.Rules.{IsConsistent}
@@ -16,7 +16,7 @@ consistent c =
 pub invariant_of-result : goal.invariant_of-result
 invariant_of-result c = record {
   rules = consistent c;
-  decided = rw c.in_ok-reads.ensures (none_decided (own_types (state_of c.in_ok-lives.lives 1)) c.blocks-2.result c.in_ok-lives.lives c.blocks-2.ensures);
+  decided = rw c.in_ok-reads.ensures (none_decided (own_types (state_of c.in_ok-lives.lives 1)) c.blocks-2.result c.in_ok-lives.lives (c.blocks-2.ensures ∙ ap length c.lives.view_is));
   own = c.requires.own ∙ sym (ap (λ (lives : Lives). own_types (state_of lives 1)) c.in_ok-lives.ensures
       ∙ mounted_types (blocks_in c.args.image.now) (lives_in c.args.image.now c.args.found.now) c.requires.found.sound c.requires.found.recovered);
 }
