@@ -6,12 +6,12 @@ use Rattle.ffs_lib.proofs.Common.{make_in, make_root_of, may_add, new_life, no_e
 use Rattle.ffs_lib.proofs.Common.{slot_now, states, zero_block}
 use Rattle.xn_model.proofs.ForCallers.{accept, accepted, accepted_other, each_forth, set_other}
 use Rattle.ffs_model.proofs.ForCallers.{inodes_begun, library_reads, pointer_set, pointer_written, root_begun, root_made, root_set_short, root_short, rooted, rooted_here, rooted_others, started, started_here, started_holds, started_keeps, started_others, zeros_pointer}
-use Rattle.ffs_lookup.proofs.ForCallers.{gives_err, pointer_is, root_again}
+use Rattle.ffs_lookup.proofs.ForCallers.{gives_err, gives_ok, pointer_is, root_again}
 use Rattle.ffs_lib.specs.Making.{IsBegun, Rooted, StopsFirst, StopsPointing, StopsRooting, StopsTop, first_pointer, rooted_of, top_inodes, with_root, without_block}
 use Rattle.ffs_lib.specs.Volumes.{edits_of}
 use Rattle.ffs_lib.specs.Steps.{Ends, Follows, Proposed, Stage, Tells, left_by}
 use Rattle.ffs_lib.proofs.Kept.{begun_there}
-use Rattle.ffs_lib.proofs.Laws.{fails, finishes, forgot_stage, match_then, short_told, told_by}
+use Rattle.ffs_lib.proofs.Laws.{fails, finishes, follows_err, forgot_stage, match_then, short_told, told_by}
 use Rattle.ffs_lib.proofs.Tops.{BareRoot, bare_from, bare_to, found_still, makes_top, new_addable, new_alive, new_own, none_named, none_set, rootless_slot, still_addable, top_bare, top_direct}
 use Rattle.ffs_lib.proofs.Undoing.{at_ok}
 use Rattle.ffs_lib.proofs.ValueVolume.{empty_there}
@@ -59,6 +59,11 @@ root_refused made T fs old new refusal result e given from =
     let p = err_from_is_err_and result from in
     let is = subst (λ (t : Types). Gives (init_of t old fs 3 zero_block) old new (Err refusal)) e given in
     subst (Rooted T fs old new) (sym p.1) (inl (gives_err (init_of T old fs 3 zero_block) old new refusal is, subst (Tells (init_of T old fs 3 zero_block)) (sym p.2) (told_by (init_of T old fs 3 zero_block) old new refusal is)))
+
+-- the store's refusal is told as a fault
+pub root_set : (called : Result (ℕ × StoreState) Refusal) (old new : StoreState) (given : Result ℕ Refusal) (told : Result ℕ FfsFault) → Gives called old new given → MatchResult given (λ entry. told ≡ Ok entry) (λ refusal. IsErrAnd told (λ fault. fault ≡ Kernel refusal)) → Follows called old new told
+root_set called old new (Ok entry) told h same = subst (Follows called old new) (sym same) (gives_ok called old new entry h)
+root_set called old new (Err refusal) told h from = follows_err called old new refusal told h from
 
 pub root_follows : (T : Types) (fs : ℕ) (old first second third : StoreState) (block number : ℕ) → init_of T old fs 3 zero_block ≡ Ok ((block, number), first) → (made result : Result ℕ FfsFault) → Follows (make_root_of first fs block) first second made → result ≡ made → OnOk result (third ≡ second) →
     OnErr result (third ≡ without_block T fs block second) → Rooted T fs old third result

@@ -3,18 +3,16 @@
 ghost use Rattle.std.specs.Prelude.{◌≡◌, ◌≢◌, ℕ, Option};
 ghost use Rattle.xn_model.specs.Types.{Types};
 ghost use Rattle.ffs_model.specs.Cuts.{Under};
-ghost use Rattle.ffs_lookup.specs.FileValues.{files_of};
-ghost use Rattle.ffs_lib.specs.Orders.{InOrder, Orders};
-ghost use Rattle.ffs_lib.specs.RepairOrder.{reclaimed_parts, repaired_edits};
-ghost use Rattle.ffs_lib.specs.Reclaiming.{Emptied, MayRepair, Reclaims, RepairedOne, StopsRepairing};
+ghost use Rattle.ffs_lib.specs.Orders.{Orders};
+ghost use Rattle.ffs_lib.specs.RepairOrder.{repaired_edits};
+ghost use Rattle.ffs_lib.specs.Reclaiming.{Emptied, MayRepair, RepairedOne, StopsRepairing};
 ghost use Rattle.ffs_lib.specs.Steps.{Ends, Stage, newest_block};
 
 use crate::put::{put, put_inode};
 use crate::steps::{blocks_in, blocks_of};
 use edit_list::{EditId, Fs};
 use ffs_format::Inode;
-use ffs_format::inodes::MOST_INODES;
-use ffs_lookup::{FfsFault, Found, Repair, Repairs, find_inode, look_up_repairs, read_block};
+use ffs_lookup::{FfsFault, Found, Repair, find_inode, read_block};
 use std::alloc::Global;
 use store_types::BLOCK_LEN;
 use xn_state::Store;
@@ -106,7 +104,7 @@ fn set_links<S: Store>(
 }
 
 /// Does with an inode what it needs.
-fn repair_inode<S: Store>(
+pub fn repair_inode<S: Store>(
     alloc: Global,
     store: &mut S,
     fs: Fs,
@@ -127,21 +125,4 @@ fn repair_inode<S: Store>(
         Repair::SetLinks(links) => set_links(alloc, store, fs, number, links)?,
     };
     Ok(())
-}
-
-/// Looks up what each inode needs, and does it, the lowest first.
-pub fn reclaim_inodes<S: Store>(alloc: Global, store: &mut S, fs: Fs) -> Result<Repairs, FfsFault>
-    ensures types { S.types_of store.new ≡ S.types_of store.old }
-    ensures reclaims { (T : Types) (array : ℕ → Option ℕ) → S.types_of store.old ≡ T → Stage T fs.number array (S.state_of store.old) →
-        Stage T fs.number array (S.state_of store.new) × Reclaims T fs.number (S.state_of store.old) (S.state_of store.new) result }
-    ensures order { (T : Types) (array : ℕ → Option ℕ) → S.types_of store.old ≡ T → Stage T fs.number array (S.state_of store.old) →
-        InOrder T fs.number (reclaimed_parts (files_of (newest_block (S.state_of store.old)) fs.number) fs.number)
-        (S.state_of store.old) (S.state_of store.new) result }
-{
-    let repairs = look_up_repairs(store, fs)?;
-    for at in 0..MOST_INODES {
-        let number = at + 1;
-        repair_inode(alloc, store, fs, number, repairs.of(number))?;
-    }
-    Ok(repairs)
 }

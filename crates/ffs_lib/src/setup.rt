@@ -2,7 +2,7 @@
 
 ghost use Rattle.std.specs.Prelude.{◌≡◌, true, ℕ, Contains, Ok, OnOk, length};
 ghost use Rattle.xn_model.specs.Lists.{put};
-ghost use Rattle.xn_model.specs.Calls.{make_root_of, slot_now};
+ghost use Rattle.xn_model.specs.Calls.{slot_now};
 ghost use Rattle.xn_model.specs.Rules.{IsConsistent};
 ghost use Rattle.xn_model.specs.Types.{Types};
 ghost use Rattle.ffs_model.specs.Cuts.{latest};
@@ -16,7 +16,7 @@ ghost use Rattle.ffs_lookup.specs.FileValues.{files_of};
 ghost use Rattle.ffs_lib.specs.Making.{IsBegun, Rooted, StopsFirst, StopsRooting, StopsTop, first_pointer, with_root};
 ghost use Rattle.ffs_lib.specs.NewOrder.{made_top, rooted_by, top_attached};
 ghost use Rattle.ffs_lib.specs.Results.{new_inode};
-ghost use Rattle.ffs_lib.specs.Steps.{Ends, Follows, Proposed, Stage, newest_block};
+ghost use Rattle.ffs_lib.specs.Steps.{Ends, Proposed, Stage, newest_block};
 
 use crate::put::put;
 use crate::steps::{INODE_BLOCK, block_with, forgotten};
@@ -76,21 +76,13 @@ pub fn first_inodes() -> [u8; BLOCK_LEN]
     block_with(0, inode.bytes())
 }
 
-/// Sets the root slot to a block.
-fn set_root<S: Store>(store: &mut S, fs: Fs, block: u32) -> Result<EditId, FfsFault>
-    ensures types { S.types_of store.new ≡ S.types_of store.old }
-    ensures set { Follows (make_root_of (S.state_of store.old) fs.number block) (S.state_of store.old) (S.state_of store.new) result }
-{
-    Ok(store.make_root(fs, block)?)
-}
-
 /// Makes a root block without pointers, and sets the root slot to it.
 fn make_root<S: Store>(store: &mut S, fs: Fs) -> Result<EditId, FfsFault>
     ensures types { S.types_of store.new ≡ S.types_of store.old }
     ensures rooted { (T : Types) → S.types_of store.old ≡ T → Rooted T fs.number (S.state_of store.old) (S.state_of store.new) result }
 {
     let (block, _) = store.init(fs, ROOT, &[0; BLOCK_LEN])?;
-    let made = set_root(store, fs, block);
+    let made = store.make_root(fs, block).map_err(FfsFault::Kernel);
     forgotten(store, fs, block, made)
 }
 

@@ -1,17 +1,17 @@
 // A volume: the files and directories of a file system.
 
-ghost use Rattle.std.specs.Prelude.{◌≡◌, ◌≢◌, ◌<◌, ◌≤◌, ◌+◌, ◌++◌, ◌==◌, ◌&&◌, not, true, false, ◌⊎◌, Bool, ℕ, List, Option, length, map, Contains, None, Some};
-ghost use Rattle.std.specs.Prelude.{[], Ok, Err, IfOk, IfErr, OnOk, OnErr, IfSome, IsOk, IsTrue, MatchResult};
+ghost use Rattle.std.specs.Prelude.{◌≡◌, ◌≢◌, ◌<◌, ◌+◌, ◌++◌, ◌==◌, ◌&&◌, not, true, false, ◌⊎◌, ℕ, List, Option, length, map, None, Some};
+ghost use Rattle.std.specs.Prelude.{[], Ok, Err, IfOk, OnOk, OnErr, IfSome, IsOk, IsTrue, MatchResult};
 ghost use Rattle.std.specs.List.{range_with_len};
 ghost use Rattle.ffs_format.specs.Entries.{is_name};
 ghost use Rattle.ffs_model.specs.Cuts.{latest};
-ghost use Rattle.ffs_model.specs.Library.{library_layout, inode_mode, IsLibrary, inode_blocks, inode_links, zero_block};
+ghost use Rattle.ffs_model.specs.Library.{library_layout, inode_mode, IsLibrary, inode_links};
 ghost use Rattle.xn_model.specs.Lists.{put};
-ghost use Rattle.ffs_lookup.specs.Newest.{IsLowest, TakesEntry, create_in, directory_in, first_named, has_empty_pointer, has_inode, has_room, is_at};
-ghost use Rattle.ffs_lookup.specs.Newest.{file_end, mapped, root_in, write_in, listing, named_in, names_at, rename_in};
-ghost use Rattle.ffs_lookup.specs.Newest.{rmdir_in, unlink_in, without_entry, inode_in};
+ghost use Rattle.ffs_lookup.specs.Newest.{IsLowest, create_in, directory_in, has_empty_pointer, has_inode, has_room, is_at};
+ghost use Rattle.ffs_lookup.specs.Newest.{file_end, mapped, root_in, write_in, named_in, names_at, rename_in};
+ghost use Rattle.ffs_lookup.specs.Newest.{rmdir_in, unlink_in, inode_in};
 ghost use Rattle.ffs_lookup.specs.Counts.{if_idle, open_in};
-ghost use Rattle.ffs_lookup.specs.Repairs.{idle_in, repair_at};
+ghost use Rattle.ffs_lookup.specs.Repairs.{repair_at};
 ghost use Rattle.ffs_lib.specs.Reclaiming.{LeftByRepair, needs, reclaimed, reclaimed_stages};
 ghost use Rattle.ffs_lib.specs.RepairOrder.{reclaimed_parts};
 ghost use Rattle.ffs_lookup.specs.declared.places.Found.{Found};
@@ -36,24 +36,24 @@ ghost use Rattle.ffs_lib.specs.Steps.{Unnamed, newest_block};
 ghost use Rattle.xn_model.specs.Types.{Types};
 ghost use Rattle.store_types.specs.declared.refusal.Refusal.{Refusal};
 ghost use Rattle.xn_model.specs.Calls.{was_given};
-ghost use Rattle.ffs_lib.specs.Results.{new_inode, MadeEntry, MovedInodes, OnlyChanges, OthersSame, TookLink};
+ghost use Rattle.ffs_lib.specs.Results.{MadeEntry, MovedInodes};
 
 mod replace;
 mod unname;
 
 use crate::data::{MOST_BYTES, look_up_end, none_taken, raise_size, read_part, write_parts};
 use crate::put::{add_link, attach, empty_inode, enter, put, put_inode, take_link};
-use crate::reclaim::reclaim_inodes;
+use crate::reclaim::repair_inode;
 use crate::setup::{look_up_root, make_first};
 use crate::steps::{INODE_BLOCK, is_word};
 use edit_list::{EditId, Fs};
 use ffs_format::entries::ENTRY_LEN;
-use ffs_format::inodes::{DIRECT_POINTERS, INODES};
+use ffs_format::inodes::{DIRECT_POINTERS, INODES, MOST_INODES};
 use ffs_format::{ENTRIES, Inode, entry_inode, entry_name, is_name, pointer_bytes};
 use ffs_lookup::{
-    DIRECTORY, FfsFault, Free, INODE_BLOCKS, Repairs, Slot, find_directory, find_entry, find_file,
-    find_free, find_inode, find_pointer, find_room, is_empty, look_up_repairs, look_up_volume,
-    read_block, root_block,
+    DIRECTORY, FfsFault, Free, Repairs, Slot, find_directory, find_entry, find_file, find_free,
+    find_inode, find_pointer, find_room, is_empty, look_up_repairs, look_up_volume, read_block,
+    root_block,
 };
 use std::alloc::{AllocError, Global};
 use store_types::BLOCK_LEN;
@@ -635,17 +635,6 @@ impl Volume {
         self.remove(alloc, store, slot, None)
     }
 
-    /// What each inode needs to be in use exactly where it has a name, with as many links as names. A crash may leave inodes without a
-    /// name, or with more links than names, for good. Those in use without a name are to be given up, unless they are directories with
-    /// entries; the top directory needs nothing. It answers `Pending` where something of the file system is pending.
-    pub fn reclaimable<S: Store>(&self, store: &S) -> Result<Repairs, FfsFault>
-        ensures exact { IsLibrary (S.types_of store.now) → mapped (λ repairs. tt) result ≡ idle_in (S.state_of store.now) self.now.fs.number }
-        ensures each { IsLibrary (S.types_of store.now) → IfOk result (λ repairs. (n : ℕ) →
-            repair_at repairs.each n ≡ needs (files_of (newest_block (S.state_of store.now)) self.now.fs.number) n) }
-    {
-        look_up_repairs(store, self.fs)
-    }
-
     /// Does with each inode what it needs, the lowest first, and answers that: what is to be given up is freed, with its blocks, and what
     /// has more links than names has as many. No file with a name changes its bytes. Before any edit it answers `Pending` where something
     /// of the file system is pending. Any refusal of the store is `Kernel`; what was done before it stands.
@@ -662,7 +651,12 @@ impl Volume {
             (S.state_of store.old) (S.state_of store.new) result }
         ensures keeps { IsVolume (S.types_of store.old) (S.state_of store.new) self.now }
     {
-        reclaim_inodes(alloc, store, self.fs)
+        let repairs = look_up_repairs(store, self.fs)?;
+        for at in 0..MOST_INODES {
+            let number = at + 1;
+            repair_inode(alloc, store, self.fs, number, repairs.of(number))?;
+        }
+        Ok(repairs)
     }
 
     /// Clears an entry, and takes a link from the inode that it names.

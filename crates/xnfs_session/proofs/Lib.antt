@@ -1,4 +1,5 @@
 pub mod Flushed
 pub mod Opening
 pub mod Looks
+mod ByKind
 mod Taken

@@ -1,6 +1,9 @@
 -- What callers see of a session, and what its calls tell.
 --     SessionValue S       a store, the file system whose volume is open on it, and the numbers that the volume keeps of its edits
 --     node_from n inode    what is told of the inode n
+--     new_of, mode_of      what is made of a kind, and the mode of its inode
+--     removed_of           what `remove` makes of the files, by the kind
+--     removal_in           the entry that it clears
 --     used_in              how many inodes are in use
 --     name_blocks          how many blocks a new name in a directory takes, with an inode or without
 --     owner_of             a block's type, and the blocks that its newest bytes point to
@@ -18,7 +21,11 @@ use Rattle.ffs_lookup.specs.declared.fault.FfsFault.{FfsFault}
 use Rattle.ffs_lookup.specs.declared.fault.FfsFault.TheVariants.{TooLarge}
 use Rattle.ffs_lookup.specs.declared.places.Room.{Room}
 use Rattle.ffs_lookup.specs.declared.places.Room.TheVariants.{Pointer}
-use Rattle.ffs_lookup.specs.Newest.{and_then, directory_in, has_free_inode, has_room, inode_in, mapped, room_in, root_in}
+use Rattle.ffs_lookup.specs.declared.places.Slot.{Slot}
+use Rattle.ffs_lookup.specs.Files.{Answer, Files, InodeValue, new_directory, new_file, removed, unlinked}
+use Rattle.ffs_lookup.specs.Newest.{and_then, directory_in, has_free_inode, has_room, inode_in, mapped, rmdir_in, room_in, root_in, unlink_in}
+use Rattle.xnfs_session.specs.declared.session.Kind.{Kind}
+use Rattle.xnfs_session.specs.declared.session.Kind.TheVariants.{File, Directory}
 use Rattle.xnfs_session.specs.declared.session.Node.{Node}
 
 pub record SessionValue (S : Type 0) : Type 0 where
@@ -29,6 +36,24 @@ pub record SessionValue (S : Type 0) : Type 0 where
 
 abbrev pub node_from : ℕ → List ℕ → Node
 node_from n inode = record { number = n; is_directory = inode_mode inode == 2; links = inode_links inode; size = (fields_of inode).size }
+
+-- what is made of a kind, and the mode of its inode
+abbrev pub new_of : Kind → InodeValue
+new_of File = new_file
+new_of Directory = new_directory
+
+abbrev pub mode_of : Kind → ℕ
+mode_of File = 1
+mode_of Directory = 2
+
+-- the files without a name: that of a file, or of an empty directory, as a function of them; and the entry that is cleared
+abbrev pub removed_of : Kind → Files → ℕ → List ℕ → Answer (Unit {0})
+removed_of File = unlinked
+removed_of Directory = removed
+
+abbrev pub removal_in : Kind → (ℕ → List ℕ) → ℕ → ℕ → List ℕ → Result Slot FfsFault
+removal_in File = unlink_in
+removal_in Directory = rmdir_in
 
 -- how many inodes are in use
 abbrev pub is_used : (ℕ → List ℕ) → ℕ → ℕ → Bool

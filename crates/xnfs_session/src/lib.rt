@@ -11,5 +11,5 @@ mod stopping;
 pub use ffs_format::inodes::MOST_INODES;
 pub use ffs_lib::{FfsFault, Fs, Repair, Repairs};
 pub use flush_store::FlushStore;
-pub use session::{Entry, Facts, MOST_BYTES, Node, Owner, Session, Usage, has_volume};
+pub use session::{Entry, Facts, Kind, MOST_BYTES, Node, Owner, Session, Usage, has_volume};
 pub use stopping::{Stop, TestLane};

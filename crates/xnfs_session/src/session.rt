@@ -1,15 +1,15 @@
 // A store with its open volume.
 
-ghost use Rattle.std.specs.Prelude.{◌≡◌, ◌≢◌, ◌<◌, ◌≤◌, ◌+◌, ◌⊎◌, ℕ, List, [], is_some, length, map, IfErr, IfOk, IsOk, IsTrue, MatchResult, None, Some, OnErr, OnOk, Ok, Err};
+ghost use Rattle.std.specs.Prelude.{◌≡◌, ◌≢◌, ◌<◌, ◌≤◌, ◌+◌, ◌⊎◌, ℕ, List, [], length, map, IfErr, IfOk, IsOk, IsTrue, MatchResult, None, Some, OnErr, OnOk, Ok, Err};
 ghost use Rattle.ffs_model.specs.Cuts.{latest};
 ghost use Rattle.ffs_model.specs.Library.{IsLibrary};
 ghost use Rattle.ffs_model.specs.Volumes.{no_edits};
-ghost use Rattle.ffs_lookup.specs.Newest.{create_in, file_end, inode_in, mapped, named_in, rename_in, rmdir_in, unlink_in, write_in};
+ghost use Rattle.ffs_lookup.specs.Newest.{create_in, file_end, inode_in, mapped, named_in, rename_in, write_in};
 ghost use Rattle.ffs_lookup.specs.declared.places.Slot.{Slot};
-ghost use Rattle.ffs_lookup.specs.Files.{Files, created, listed, new_directory, new_file, read, read_over, removed, renamed, replaced, unlinked, written};
+ghost use Rattle.ffs_lookup.specs.Files.{Files, created, read, renamed, replaced, written};
 ghost use Rattle.ffs_lookup.specs.FileValues.{files_of};
 ghost use Rattle.ffs_lookup.specs.Counts.{if_idle};
-ghost use Rattle.ffs_lookup.specs.Repairs.{idle_in, repair_at};
+ghost use Rattle.ffs_lookup.specs.Repairs.{repair_at};
 ghost use Rattle.ffs_lib.specs.NewOrder.{CreatesInOrder, new_in};
 ghost use Rattle.ffs_lib.specs.Orders.{InOrder, Orders, moved_parts, removed_edits, replaced_parts};
 ghost use Rattle.ffs_lib.specs.Reclaiming.{LeftByRepair, needs, reclaimed, reclaimed_stages};
@@ -31,7 +31,7 @@ ghost use Rattle.xn_kernel.specs.FlushedStates.{KeepsNewest, StateRefuses, State
 ghost use Rattle.xnfs_session.specs.Kept.{KeepsVolumes};
 ghost use Rattle.xnfs_session.specs.Opening.{MakesBy, OpensBy};
 ghost use Rattle.templates.specs.Meaning.{numbers_of_pair};
-ghost use Rattle.xnfs_session.specs.Sessions.{entry_blocks, inode_blocks, name_blocks, owner_of, used_in};
+ghost use Rattle.xnfs_session.specs.Sessions.{entry_blocks, inode_blocks, mode_of, name_blocks, new_of, owner_of, removal_in, removed_of, used_in};
 
 mod raw;
 
@@ -53,6 +53,15 @@ use xn_kernel::{Refusal, Store};
 
 /// How many bytes a file has at most.
 pub const MOST_BYTES: u32 = 71_680;
+
+/// What a name of a directory stands for.
+#[derive(Clone, Copy, Debug, PartialEq, Eq)]
+pub enum Kind {
+    /// A file.
+    File,
+    /// A directory.
+    Directory,
+}
 
 /// What stands at an inode.
 #[derive(Clone, Copy, Debug, PartialEq, Eq)]
@@ -302,42 +311,32 @@ impl<S: FlushStore + Drop> Session<S> {
         Ok(slot.inode)
     }
 
-    /// Makes an empty file, and answers its inode.
-    pub fn create(&mut self, alloc: Global, directory: u16, name: &[u8]) -> Result<u16, FfsFault>
+    /// Makes an empty file or an empty directory, and answers its inode.
+    pub fn create(
+        &mut self,
+        alloc: Global,
+        directory: u16,
+        name: &[u8],
+        kind: Kind,
+    ) -> Result<u16, FfsFault>
         ensures types { S.types_of self.new.store ≡ S.types_of self.old.store }
         ensures fs { self.new.fs ≡ self.old.fs }
         ensures answers { let files = files_of (newest_block (S.state_of self.old.store)) self.old.fs in
-            Does (S.types_of self.old.store) self.old.fs (created new_file files directory name.now) (created_stages new_file files directory name.now)
-            (S.state_of self.old.store) (S.state_of self.new.store) result }
+            Does (S.types_of self.old.store) self.old.fs (created (new_of kind) files directory name.now)
+            (created_stages (new_of kind) files directory name.now) (S.state_of self.old.store) (S.state_of self.new.store) result }
         ensures inodes { let old = newest_block (S.state_of self.old.store) in let new = newest_block (S.state_of self.new.store) in
-            (next : ℕ × Files) → created new_file (files_of old self.old.fs) directory name.now ≡ Ok next →
-            Makes old new self.old.fs directory 1 next.0 × OnErr result (OnlyMade old new self.old.fs next.0) }
+            (next : ℕ × Files) → created (new_of kind) (files_of old self.old.fs) directory name.now ≡ Ok next →
+            Makes old new self.old.fs directory (mode_of kind) next.0 × OnErr result (OnlyMade old new self.old.fs next.0) }
         ensures order { (n : ℕ) → Ok n ≡ new_in (newest_block (S.state_of self.old.store)) self.old.fs directory name.now →
-            CreatesInOrder (S.types_of self.old.store) self.old.fs directory name.now 1 n (edits_of self.old.numbers) (S.state_of self.old.store)
-            (edits_of self.new.numbers) (S.state_of self.new.store) result }
+            CreatesInOrder (S.types_of self.old.store) self.old.fs directory name.now (mode_of kind) n (edits_of self.old.numbers)
+            (S.state_of self.old.store) (edits_of self.new.numbers) (S.state_of self.new.store) result }
         ensures numbers { (fault : FfsFault) → Err fault ≡ create_in (newest_block (S.state_of self.old.store)) self.old.fs directory name.now →
             edits_of self.new.numbers ≡ edits_of self.old.numbers }
     {
-        self.volume.create(alloc, &mut self.store, directory, name)
-    }
-
-    /// Makes an empty directory, and answers its inode.
-    pub fn mkdir(&mut self, alloc: Global, directory: u16, name: &[u8]) -> Result<u16, FfsFault>
-        ensures types { S.types_of self.new.store ≡ S.types_of self.old.store }
-        ensures fs { self.new.fs ≡ self.old.fs }
-        ensures answers { let files = files_of (newest_block (S.state_of self.old.store)) self.old.fs in
-            Does (S.types_of self.old.store) self.old.fs (created new_directory files directory name.now)
-            (created_stages new_directory files directory name.now) (S.state_of self.old.store) (S.state_of self.new.store) result }
-        ensures inodes { let old = newest_block (S.state_of self.old.store) in let new = newest_block (S.state_of self.new.store) in
-            (next : ℕ × Files) → created new_directory (files_of old self.old.fs) directory name.now ≡ Ok next →
-            Makes old new self.old.fs directory 2 next.0 × OnErr result (OnlyMade old new self.old.fs next.0) }
-        ensures order { (n : ℕ) → Ok n ≡ new_in (newest_block (S.state_of self.old.store)) self.old.fs directory name.now →
-            CreatesInOrder (S.types_of self.old.store) self.old.fs directory name.now 2 n (edits_of self.old.numbers) (S.state_of self.old.store)
-            (edits_of self.new.numbers) (S.state_of self.new.store) result }
-        ensures numbers { (fault : FfsFault) → Err fault ≡ create_in (newest_block (S.state_of self.old.store)) self.old.fs directory name.now →
-            edits_of self.new.numbers ≡ edits_of self.old.numbers }
-    {
-        self.volume.mkdir(alloc, &mut self.store, directory, name)
+        match kind {
+            Kind::File => self.volume.create(alloc, &mut self.store, directory, name),
+            Kind::Directory => self.volume.mkdir(alloc, &mut self.store, directory, name),
+        }
     }
 
     /// Writes the first of some bytes into a file from an offset on, as many as the store takes now, and answers how many. It answers 0 where too
@@ -377,40 +376,31 @@ impl<S: FlushStore + Drop> Session<S> {
             .write_some(alloc, &mut self.store, inode, offset, bytes)
     }
 
-    /// Takes a file's name, and gives the file up with its last one.
-    pub fn unlink(&mut self, alloc: Global, directory: u16, name: &[u8]) -> Result<(), FfsFault>
+    /// Takes a file's name, and gives the file up with its last one; or gives an empty directory up.
+    pub fn remove(
+        &mut self,
+        alloc: Global,
+        directory: u16,
+        name: &[u8],
+        kind: Kind,
+    ) -> Result<(), FfsFault>
         ensures types { S.types_of self.new.store ≡ S.types_of self.old.store }
         ensures fs { self.new.fs ≡ self.old.fs }
         ensures numbers { self.new.numbers ≡ self.old.numbers }
         ensures answers { let files = files_of (newest_block (S.state_of self.old.store)) self.old.fs in
-            Does (S.types_of self.old.store) self.old.fs (unlinked files directory name.now) (removed_stages files directory name.now)
+            Does (S.types_of self.old.store) self.old.fs (removed_of kind files directory name.now) (removed_stages files directory name.now)
             (S.state_of self.old.store) (S.state_of self.new.store) result }
         ensures inodes { let old = newest_block (S.state_of self.old.store) in let new = newest_block (S.state_of self.new.store) in let fs = self.old.fs in
-            (slot : Slot) → Ok slot ≡ unlink_in old fs directory name.now →
+            (slot : Slot) → Ok slot ≡ removal_in kind old fs directory name.now →
             Unnames old new fs directory slot.inode × OnErr result (KeptOrEmptied old new fs slot.inode) }
         ensures order { let old = newest_block (S.state_of self.old.store) in let fs = self.old.fs in
-            (slot : Slot) → Ok slot ≡ unlink_in old fs directory name.now → Orders (S.types_of self.old.store) fs
+            (slot : Slot) → Ok slot ≡ removal_in kind old fs directory name.now → Orders (S.types_of self.old.store) fs
             (removed_edits old fs slot None (S.state_of self.old.store).next) (S.state_of self.old.store) (S.state_of self.new.store) result }
     {
-        self.volume.unlink(alloc, &mut self.store, directory, name)
-    }
-
-    /// Gives an empty directory up.
-    pub fn rmdir(&mut self, alloc: Global, directory: u16, name: &[u8]) -> Result<(), FfsFault>
-        ensures types { S.types_of self.new.store ≡ S.types_of self.old.store }
-        ensures fs { self.new.fs ≡ self.old.fs }
-        ensures numbers { self.new.numbers ≡ self.old.numbers }
-        ensures answers { let files = files_of (newest_block (S.state_of self.old.store)) self.old.fs in
-            Does (S.types_of self.old.store) self.old.fs (removed files directory name.now) (removed_stages files directory name.now)
-            (S.state_of self.old.store) (S.state_of self.new.store) result }
-        ensures inodes { let old = newest_block (S.state_of self.old.store) in let new = newest_block (S.state_of self.new.store) in let fs = self.old.fs in
-            (slot : Slot) → Ok slot ≡ rmdir_in old fs directory name.now →
-            Unnames old new fs directory slot.inode × OnErr result (KeptOrEmptied old new fs slot.inode) }
-        ensures order { let old = newest_block (S.state_of self.old.store) in let fs = self.old.fs in
-            (slot : Slot) → Ok slot ≡ rmdir_in old fs directory name.now → Orders (S.types_of self.old.store) fs
-            (removed_edits old fs slot None (S.state_of self.old.store).next) (S.state_of self.old.store) (S.state_of self.new.store) result }
-    {
-        self.volume.rmdir(alloc, &mut self.store, directory, name)
+        match kind {
+            Kind::File => self.volume.unlink(alloc, &mut self.store, directory, name),
+            Kind::Directory => self.volume.rmdir(alloc, &mut self.store, directory, name),
+        }
     }
 
     /// Takes one of a directory's names where another entry of the same directory names it too, as a `rename` that was cut short leaves it.
