@@ -54,14 +54,6 @@ impl NamedBlocks {
         self.entries[at]
     }
 
-    /// Whether a block is named.
-    pub fn has(&self, block: u32) -> bool
-        requires { 0 < block }
-        ensures { result ≡ has_block self.now.entries block }
-    {
-        self.is_taken(block)
-    }
-
     /// Whether a block is 0 or named.
     pub fn is_taken(&self, block: u32) -> bool
         ensures { result ≡ ((block == 0) || has_block self.now.entries block) }

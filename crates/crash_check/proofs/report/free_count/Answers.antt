@@ -2,24 +2,25 @@ use Rattle.std.proofs.Common.{◌≡◌, ◌∙◌, ◌+◌, ◌-◌, ◌∷◌,
 use Rattle.std.specs.List.{range_with_len}
 use Rattle.image_model.specs.Walk.{free_list, has_block}
 use Rattle.image_model.proofs.ForCallers.{free-named, free-other}
-use Rattle.crash_check.proofs.report.free_count.Goals.{then-not-has, else-not-has}
+use Rattle.crash_check.proofs.Marks.{taken_named}
+use Rattle.crash_check.proofs.report.free_count.Goals.{then-not-is_taken, else-not-is_taken}
 use Rattle.crash_check.proofs.report.free_count.Goals as goal
 
 pub loop-number-preserved : goal.loop-number-preserved
 loop-number-preserved c =
-    let has = c.has.ensures in
+    let has = c.is_taken.ensures ∙ taken_named c.args.named.now.entries c.loop-number.number (λ none. absurd (omega (arith, none))) in
     let named = c.args.named.now.entries in
     let block = c.loop-number.number in
-    elim c.if-not-has.branch [
-      | then-not-has w ↦ record {
+    elim c.if-not-is_taken.branch [
+      | then-not-is_taken w ↦ record {
         counted = w.free-is ∙ ap (λ n. n + 1) c.loop-number.invariant.counted
-            ∙ sym (ap length (free-other named block c.loop-number.auto.number (sym has ∙ w.if-not-has.true))
+            ∙ sym (ap length (free-other named block c.loop-number.auto.number (sym has ∙ w.if-not-is_taken.true))
             ∙ length-append (free_list block named) (block ∷ []));
         few = omega (arith, w.free-is);
       }
-      | else-not-has w ↦ record {
+      | else-not-is_taken w ↦ record {
         counted = w.free-is ∙ c.loop-number.invariant.counted
-            ∙ sym (ap length (free-named named block c.loop-number.auto.number (sym has ∙ w.if-not-has.false)));
+            ∙ sym (ap length (free-named named block c.loop-number.auto.number (sym has ∙ w.if-not-is_taken.false)));
         few = omega (arith, w.free-is);
       }
     ]
