@@ -21,32 +21,9 @@ fn inode_of(number: u32) -> Result<u16, Reason> {
     }
 }
 
-/// What stands at a number.
-fn node_of<S: FlushStore + Drop>(session: &Session<S>, number: u32) -> Result<Node, Reason>
-    ensures { IfOk result (λ node. node.number ≡ number) }
-{
-    let found = seen(session.node(inode_of(number)?))?;
-    let (kind, permissions) = if found.is_directory {
-        (Kind::Directory, 0o755)
-    } else {
-        (Kind::File, 0o644)
-    };
-    Ok(Node {
-        number,
-        kind,
-        permissions,
-        links: u32::from(found.links),
-        uid: 0,
-        gid: 0,
-        size: u64::from(found.size),
-        modified: 0,
-        changed: 0,
-    })
-}
-
 /// The file of a number.
-fn file_of<S: FlushStore + Drop>(session: &Session<S>, number: u32) -> Result<Node, Reason> {
-    let node = node_of(session, number)?;
+fn file_of<S: FlushStore + Drop>(volume: &FirstVolume<S>, number: u32) -> Result<Node, Reason> {
+    let node = volume.node(number)?;
     if node.is_folder() {
         Err(Reason::Folder)
     } else {
@@ -97,21 +74,21 @@ fn parent_of<S: FlushStore + Drop>(
 
 /// Where a name between the slashes of a path leads from a number.
 fn step_of<S: FlushStore + Drop>(
-    session: &Session<S>,
+    volume: &FirstVolume<S>,
     alloc: Global,
     number: u32,
     name: &[u8],
 ) -> Result<u32, Reason> {
-    if !node_of(session, number)?.is_folder() {
+    if !volume.node(number)?.is_folder() {
         return Err(Reason::NoFolder);
     }
     if name.is_empty() || name == b".".as_slice() {
         return Ok(number);
     }
     if name == b"..".as_slice() {
-        return parent_of(session, alloc, number);
+        return parent_of(&volume.session, alloc, number);
     }
-    let inode = seen(session.look_up(inode_of(number)?, name))?;
+    let inode = seen(volume.session.look_up(inode_of(number)?, name))?;
     Ok(u32::from(inode))
 }
 
@@ -133,7 +110,23 @@ impl<S: FlushStore + Drop> View for FirstVolume<S> {
     ghost stretches = { λ s number at most result. ⊤ };
 
     fn node(&self, number: u32) -> Result<Node, Reason> {
-        node_of(&self.session, number)
+        let found = seen(self.session.node(inode_of(number)?))?;
+        let (kind, permissions) = if found.is_directory {
+            (Kind::Directory, 0o755)
+        } else {
+            (Kind::File, 0o644)
+        };
+        Ok(Node {
+            number,
+            kind,
+            permissions,
+            links: u32::from(found.links),
+            uid: 0,
+            gid: 0,
+            size: u64::from(found.size),
+            modified: 0,
+            changed: 0,
+        })
     }
 
     fn look_up(&self, folder: u32, name: &[u8]) -> Result<u32, Reason> {
@@ -154,7 +147,7 @@ impl<S: FlushStore + Drop> View for FirstVolume<S> {
     }
 
     fn read(&self, number: u32, at: u64, bytes: &mut [u8]) -> Result<usize, Reason> {
-        let file = file_of(&self.session, number)?;
+        let file = file_of(self, number)?;
         match u32::try_from(at) {
             Ok(at) if u64::from(at) < file.size => seen(
                 self.session
@@ -166,15 +159,12 @@ impl<S: FlushStore + Drop> View for FirstVolume<S> {
     }
 
     fn target(&self, _alloc: Global, number: u32) -> Result<Vec<u8>, Reason> {
-        let _node = node_of(&self.session, number)?;
+        let _node = self.node(number)?;
         Err(Reason::NoLink)
     }
 
     fn stretch(&self, number: u32, at: u64, most: u64) -> Result<Option<Stretch>, Reason> {
-        let length = file_of(&self.session, number)?
-            .size
-            .saturating_sub(at)
-            .min(most);
+        let length = file_of(self, number)?.size.saturating_sub(at).min(most);
         Ok(if length == 0 {
             None
         } else {
@@ -183,9 +173,7 @@ impl<S: FlushStore + Drop> View for FirstVolume<S> {
     }
 
     fn blocks_held(&self, number: u32) -> Result<u64, Reason> {
-        let blocks = node_of(&self.session, number)?
-            .size
-            .div_ceil(BLOCK_LEN as u64);
+        let blocks = self.node(number)?.size.div_ceil(BLOCK_LEN as u64);
         Ok(if blocks > DIRECT_POINTERS as u64 {
             blocks.saturating_add(1)
         } else {
@@ -206,7 +194,7 @@ impl<S: FlushStore + Drop> View for FirstVolume<S> {
             folder
         };
         for name in path.split(|byte| *byte == b'/') {
-            number = step_of(&self.session, alloc, number, name)?;
+            number = step_of(self, alloc, number, name)?;
         }
         Ok(number)
     }

@@ -97,7 +97,7 @@ fn print_to(
     let Some(bytes) = unescaped(alloc, text)? else {
         return Ok(None);
     };
-    Ok(silent(alloc, files.write(name, bytes.as_slice())))
+    Ok(silent(alloc, files.write_from(name, bytes.as_slice())))
 }
 
 /// The bytes of a file, and none where there is no file.
@@ -142,7 +142,7 @@ fn patch_file(
             return Ok(None);
         }
     }
-    Ok(silent(alloc, files.write(name, bytes.as_slice())))
+    Ok(silent(alloc, files.write_from(name, bytes.as_slice())))
 }
 
 /// Cuts a file off at a length, or lengthens it by zeros.
@@ -157,7 +157,7 @@ fn truncate(
     };
     let mut bytes = contents(alloc, files, name)?;
     bytes.resize(length, 0)?;
-    Ok(silent(alloc, files.write(name, bytes.as_slice())))
+    Ok(silent(alloc, files.write_from(name, bytes.as_slice())))
 }
 
 /// The bytes from an offset on, so many, or as many as there are.
@@ -208,7 +208,7 @@ fn copy(
     to: &str,
 ) -> Result<Option<Outcome>, AllocError> {
     let bytes = contents(alloc, files, from)?;
-    Ok(silent(alloc, files.write(to, bytes.as_slice())))
+    Ok(silent(alloc, files.write_from(to, bytes.as_slice())))
 }
 
 /// Says where two files differ.
@@ -247,7 +247,7 @@ fn run_on_files(
     match words {
         ["cat", ">", name] => {
             let bytes = bytes_of_lines(alloc, given)?;
-            Ok(silent(alloc, files.write(name, bytes.as_slice())))
+            Ok(silent(alloc, files.write_from(name, bytes.as_slice())))
         }
         ["printf", text, ">", name] => print_to(alloc, files, text, name),
         ["xxd", "-r", "-", name] => patch_file(alloc, files, name, given),

@@ -1,6 +1,6 @@
 // What each line asks for is done.
 
-ghost use Rattle.std.specs.Prelude.{◌≡◌, ◌≤◌, ℕ, List, [], None, IfErr, IfOk, IfSome, IsTrue, OnOk, length, map, string_bytes};
+ghost use Rattle.std.specs.Prelude.{◌≡◌, ◌≤◌, [], None, IfErr, IfOk, IfSome, IsTrue, OnOk, length, map, string_bytes};
 ghost use Rattle.std.specs.Str.{IsUtf8};
 ghost use Rattle.std.specs.Io.KnownBytes.{Appends};
 ghost use Rattle.templates.specs.Formats.{most_formatted};
@@ -79,7 +79,7 @@ fn format<'a, F: Files, W: Write>(
     let read = read_files(alloc, files, names)?;
     let templates = all_templates(alloc, file_system, read.as_slice())?;
     let bytes = made_image(alloc, blocks, templates.as_slice())?;
-    if !files.write(image, bytes.as_slice()) {
+    if !files.write_from(image, bytes.as_slice()) {
         return Err(Fault::CannotWrite(image));
     }
     print_made(out, blocks, templates.len())?;
@@ -117,7 +117,9 @@ fn assemble_files<'a, F: Files, W: Write>(
         .ok_or(Fault::CannotRead(size))?;
     let size_text = text_of(size_bytes.as_slice(), size)?;
     let template = make_template(alloc, owns_text, size_text)?;
-    if is_source(files, owns, size, block) || !files.write(block, &write_block(&template)) {
+    if is_source(files, owns, size, block)
+        || !files.write_from(block, write_block(&template).as_slice())
+    {
         return Err(Fault::CannotWrite(block));
     }
     print_template(out, &template)?;

@@ -54,13 +54,6 @@ pub trait Files {
         }
         Some(bytes)
     }
-
-    /// Whether the file now holds these bytes and no others.
-    final fn write(&mut self, name: &str, bytes: &[u8]) -> bool
-        ensures { IsTrue result → held self.new ≡ with_file (held self.old) name.now bytes.now }
-    {
-        self.write_from(name, bytes)
-    }
 }
 
 /// The bytes that a world's disk holds, block after block.
