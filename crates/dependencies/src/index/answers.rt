@@ -107,8 +107,7 @@ impl Index {
             return false;
         };
         let first = life.claim(0);
-        life.facts().begun.is_none()
-            && is_safe_at(cache, &self.dirty, &self.homes, block, 0, first)
+        life.facts().begun.is_none() && is_safe_at(cache, &self.dirty, &self.homes, block, 0, first)
     }
 
     /// The least block of which a write may begin. The walk is over the candidates, and ends with the first that is ready.
