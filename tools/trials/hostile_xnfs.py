@@ -241,7 +241,7 @@ def spaces(folder):
             trials.put_disk()
             how = {"cwd": folder, "capture_output": True, "timeout": PATIENCE, "check": False, "preexec_fn": limit(resource.RLIMIT_AS, quarters << 18)}
             done = subprocess.run([XNFS, "disk", *words], **how)
-            if done.returncode in (127, -signal.SIGSEGV, -signal.SIGKILL) and b"xnfs: " not in done.stderr:
+            if done.returncode in (127, -signal.SIGSEGV, -signal.SIGKILL) and not done.stderr.startswith(b"xnfs: "):
                 trials.tally.count("not started")
                 continue
             is_read = (done.returncode, done.stderr) != (2, b"error: out of memory\n")
