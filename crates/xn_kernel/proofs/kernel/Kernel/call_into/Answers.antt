@@ -3,7 +3,7 @@ use Rattle.xn_model.specs.Calls.{pick_of}
 use Rattle.xn_state.specs.Answers.{StateAnswers}
 use Rattle.xn_state.specs.States.{own_types}
 use Rattle.xn_state.specs.declared.answer.Answer.TheVariants as answer
-use Rattle.xn_kernel.proofs.kernel.Kernel.call.Goals as goal
+use Rattle.xn_kernel.proofs.kernel.Kernel.call_into.Goals as goal
 
 pub returns-in-Pick-clause-answer : goal.returns-in-Pick-clause-answer
 returns-in-Pick-clause-answer g c =
