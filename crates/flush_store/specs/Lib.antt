@@ -1,1 +1,2 @@
+pub use Rattle.xn_kernel.specs.FlushedStates
 pub mod Written

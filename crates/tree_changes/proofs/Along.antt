@@ -7,7 +7,7 @@ use Rattle.std.proofs.lemmas.List.{drop_more, take-append-drop, take_more, get_o
 use Rattle.xn_model.specs.Lives.{StoreState}
 use Rattle.xn_model.specs.Types.{Types}
 use Rattle.treefs_model.specs.declared.fault.Fault.{Fault}
-use Rattle.treefs.specs.declared.volume.Volume.{Volume}
+use Rattle.tree_lines.specs.Values.{Volume}
 use Rattle.tree_lines.specs.Answers.{Answers}
 use Rattle.tree_lines.specs.Telling.{GoesOn, LeavesOut, PassesOn, Tells}
 use Rattle.tree_lines.specs.declared.fault.Fault.{Fault as LineFault}

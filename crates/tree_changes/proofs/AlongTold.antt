@@ -4,7 +4,7 @@ use Rattle.std.proofs.Common.{inl, inr, subst, sym}
 use Rattle.std.specs.Prelude.{IfErr, IsErrAnd, MatchResult}
 use Rattle.xn_model.specs.Lives.{StoreState}
 use Rattle.xn_model.specs.Types.{Types}
-use Rattle.treefs.specs.declared.volume.Volume.{Volume}
+use Rattle.tree_lines.specs.Values.{Volume}
 use Rattle.tree_lines.specs.Telling.{EndsLine, GoesOn, PassesOn}
 use Rattle.tree_lines.specs.declared.fault.Fault.{Fault}
 use Rattle.tree_lines.specs.declared.told.Told.{Told}

@@ -7,11 +7,9 @@ use Rattle.xn_model.specs.Types.{Types}
 use Rattle.treefs_format.specs.declared.kind.Kind.{Kind}
 use Rattle.treefs_format.specs.declared.kind.Kind.TheVariants.{Directory, File, SymbolicLink}
 use Rattle.treefs_model.specs.declared.fault.Fault.{Fault}
-use Rattle.treefs.specs.declared.attributes.Attributes.{Attributes}
-use Rattle.treefs.specs.declared.volume.Volume.{Volume}
-use Rattle.treefs_session.specs.Freeing.{GivesUp}
-use Rattle.treefs_session.specs.Puts.{PutDoes}
-use Rattle.treefs_session.specs.declared.put.Put.{Put}
+use Rattle.tree_lines.specs.Values.{Attributes, Put, Volume}
+use Rattle.tree_lines.specs.Freeing.{GivesUp}
+use Rattle.tree_lines.specs.Puts.{PutDoes}
 use Rattle.tree_lines.specs.Answers.{Answers}
 use Rattle.tree_lines.specs.Contents.{HasTarget, bytes_seen, target_seen}
 use Rattle.tree_lines.specs.declared.node.Node.{Node}

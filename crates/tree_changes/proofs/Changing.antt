@@ -3,7 +3,7 @@ use Rattle.std.proofs.Common.{◌≡◌, ◌∙◌, ℕ, ℤ, Bool, true, false,
 use Rattle.xn_model.specs.Lives.{StoreState}
 use Rattle.xn_model.specs.Types.{Types}
 use Rattle.treefs_model.specs.declared.fault.Fault.{Fault}
-use Rattle.treefs.specs.declared.volume.Volume.{Volume}
+use Rattle.tree_lines.specs.Values.{Volume}
 use Rattle.tree_lines.specs.Answers.{Answers}
 use Rattle.tree_changes.specs.Files.{ChangesAt, FindsOrCreates, IsUnchanged, MtimeIfAny, MtimeIn, TouchesIn, mtime_set}
 use Rattle.tree_changes.specs.Paths.{AtPath}

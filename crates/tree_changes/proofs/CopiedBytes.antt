@@ -8,9 +8,8 @@ use Rattle.treefs_model.specs.declared.fault.Fault.{Fault}
 use Rattle.treefs_lookup.specs.Inodes.{inode_found}
 use Rattle.treefs_lookup.specs.Readable.{readable}
 use Rattle.treefs_lookup.specs.declared.inodes.Found.{Found}
-use Rattle.treefs.specs.declared.volume.Volume.{Volume}
-use Rattle.treefs_session.specs.Pieces.{WritesAll}
-use Rattle.treefs_session.specs.declared.calls.bytes.Target.TheVariants.{Begun}
+use Rattle.tree_lines.specs.Values.{Begun, Volume}
+use Rattle.tree_lines.specs.Pieces.{WritesAll}
 use Rattle.tree_lines.specs.Answers.{Answers}
 use Rattle.tree_lines.specs.Contents.{HasStretch, IsRead, IsStretchOf}
 use Rattle.tree_lines.specs.declared.node.Node.{Node}

@@ -6,7 +6,7 @@ use Rattle.xn_model.specs.Types.{Types}
 use Rattle.treefs_format.specs.declared.kind.Kind.{Kind}
 use Rattle.treefs_format.specs.declared.kind.Kind.TheVariants.{Directory, File, SymbolicLink}
 use Rattle.treefs_model.specs.declared.fault.Fault.{Fault}
-use Rattle.treefs.specs.declared.volume.Volume.{Volume}
+use Rattle.tree_lines.specs.Values.{Volume}
 use Rattle.tree_lines.specs.declared.node.Node.{Node}
 use Rattle.tree_changes.specs.CopiedFiles.{CopiesFile, CopiesFirst, CopiesOver, LeavesFile, LeavesFirst, LeavesOver, Replaces, copied_over, time_kept}
 use Rattle.tree_changes.specs.CopiedFiles.{with_rights_of, with_rights_over}

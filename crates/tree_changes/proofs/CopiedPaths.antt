@@ -3,7 +3,7 @@ use Rattle.std.proofs.Common.{◌≡◌, ◌∙◌, ℕ, Bool, true, false, List
 use Rattle.std.specs.Prelude.{MatchResult}
 use Rattle.xn_model.specs.Lives.{StoreState}
 use Rattle.xn_model.specs.Types.{Types}
-use Rattle.treefs.specs.declared.volume.Volume.{Volume}
+use Rattle.tree_lines.specs.Values.{Volume}
 use Rattle.tree_lines.specs.Looks.{FindsPath, node_seen}
 use Rattle.tree_lines.specs.Places.{IsFolder, IsOwnName, goal_folder, goal_name, goal_slash}
 use Rattle.tree_lines.specs.Trees.{GoesIn, IsNodeIn}

@@ -4,7 +4,7 @@ use Rattle.std.specs.Prelude.{IfErr, IsErr, MatchResult}
 use Rattle.xn_model.specs.Lives.{StoreState}
 use Rattle.xn_model.specs.Types.{Types}
 use Rattle.treefs_model.specs.declared.fault.Fault.{Fault}
-use Rattle.treefs.specs.declared.volume.Volume.{Volume}
+use Rattle.tree_lines.specs.Values.{Volume}
 use Rattle.tree_lines.specs.Answers.{Answers}
 use Rattle.tree_lines.specs.Places.{IsFolder}
 use Rattle.tree_lines.specs.Telling.{EndsLine, GoesOn, PassesOn}

@@ -2,7 +2,7 @@
 use Rattle.std.proofs.Common.{◌≡◌, ◌∙◌, ℕ, true, List, Result, Ok, Err, inl, inr, subst, sym}
 use Rattle.xn_model.specs.Lives.{StoreState}
 use Rattle.xn_model.specs.Types.{Types}
-use Rattle.treefs.specs.declared.volume.Volume.{Volume}
+use Rattle.tree_lines.specs.Values.{Volume}
 use Rattle.tree_lines.specs.Looks.{FindsPath, node_seen}
 use Rattle.tree_lines.specs.Trees.{IsNowhereIn}
 use Rattle.tree_lines.specs.declared.node.Node.{Node}

@@ -5,7 +5,7 @@ use Rattle.std.specs.Prelude.{◌==◌, slice_range}
 use Rattle.std.proofs.lemmas.Bool.Decides.{nat_tests}
 use Rattle.xn_model.specs.Lives.{StoreState}
 use Rattle.xn_model.specs.Types.{Types}
-use Rattle.treefs.specs.declared.volume.Volume.{Volume}
+use Rattle.tree_lines.specs.Values.{Volume}
 use Rattle.tree_changes.specs.Making.{HasFolder, HasFolders, IsUnmade, LacksFolders, MakesFolder, fronts, fronts_below}
 use Rattle.tree_changes.specs.Paths.{AtPath, DoesAll}
 use Rattle.tree_changes.proofs.Along.{last_answered, one_more_done, stops_at}

@@ -2,7 +2,7 @@
 use Rattle.std.proofs.Common.{ℕ, Bool, List, inl, inr}
 use Rattle.xn_model.specs.Lives.{StoreState}
 use Rattle.xn_model.specs.Types.{Types}
-use Rattle.treefs.specs.declared.volume.Volume.{Volume}
+use Rattle.tree_lines.specs.Values.{Volume}
 use Rattle.tree_lines.specs.Places.{IsOwnName}
 use Rattle.tree_lines.specs.Trees.{IsPlaceIn}
 use Rattle.tree_changes.specs.Removing.{IsKept, IsNameKept, Removes, RemovesNamed}

@@ -8,14 +8,12 @@
 use Rattle.std.specs.Prelude.{◌≡◌, ℕ, false, true, List, [], ◌∷◌, Option, None, Some, unwrap_or, Result, Ok}
 use Rattle.xn_model.specs.Lives.{StoreState}
 use Rattle.xn_model.specs.Types.{Types}
-use Rattle.treefs_byte_plans.specs.declared.attributes.Attributes.{Attributes}
-use Rattle.treefs_byte_plans.specs.declared.attributes.Owner.{Owner}
 use Rattle.treefs_format.specs.declared.kind.Kind.{Kind}
 use Rattle.treefs_format.specs.declared.kind.Kind.TheVariants.{Directory, File, SymbolicLink}
 use Rattle.treefs_model.specs.declared.fault.Fault.{Fault}
-use Rattle.treefs.specs.Setting.{AttributesDoes}
-use Rattle.treefs.specs.declared.volume.Volume.{Volume}
-use Rattle.treefs_session.specs.Freeing.{MakesFreely}
+use Rattle.tree_lines.specs.Values.{Owner, Settings, Volume}
+use Rattle.tree_lines.specs.Setting.{AttributesDoes}
+use Rattle.tree_lines.specs.Freeing.{MakesFreely}
 use Rattle.tree_lines.specs.Trees.{IsNodeIn}
 use Rattle.tree_lines.specs.declared.node.Node.{Node}
 use Rattle.tree_changes.specs.Modes.{mode_applied}
@@ -31,25 +29,25 @@ use Rattle.tree_changes.specs.declared.setting.Setting.TheVariants as setting
 abbrev pub owner_of : Owners → Node → Owner
 owner_of owners node = record { uid = unwrap_or owners.uid node.uid; gid = unwrap_or owners.gid node.gid }
 
-abbrev pub permissions_alone : ℕ → Option Attributes
+abbrev pub permissions_alone : ℕ → Option Settings
 permissions_alone permissions = Some (record { permissions = Some permissions; owner = None; mtime = None })
 
-abbrev pub mode_set : Modes → ℕ → Kind → Option Attributes
+abbrev pub mode_set : Modes → ℕ → Kind → Option Settings
 mode_set modes permissions Directory = permissions_alone (mode_applied modes permissions true)
 mode_set modes permissions File = permissions_alone (mode_applied modes permissions false)
 mode_set modes permissions SymbolicLink = None
 
-abbrev pub set_of : Setting → Node → Option Attributes
+abbrev pub set_of : Setting → Node → Option Settings
 set_of (setting.Modes modes) node = mode_set modes node.permissions node.kind
 set_of (setting.Owners owners) node = Some (record { permissions = None; owner = Some (owner_of owners node); mtime = None })
 
 -- Calls
 
-abbrev pub SetsIn : Types → ℕ → ℕ → Attributes → StoreState → StoreState → Volume → Volume → Result (Unit {0}) Fault → Type 0
+abbrev pub SetsIn : Types → ℕ → ℕ → Settings → StoreState → StoreState → Volume → Volume → Result (Unit {0}) Fault → Type 0
 SetsIn T folder number attributes =
     MakesFreely (λ old new volume volume' result. AttributesDoes T old new volume volume' number attributes result) T (folder ∷ [])
 
-abbrev pub SetsIfAny : Types → ℕ → ℕ → Option Attributes → StoreState → StoreState → Volume → Volume → Result (Unit {0}) Fault → Type 0
+abbrev pub SetsIfAny : Types → ℕ → ℕ → Option Settings → StoreState → StoreState → Volume → Volume → Result (Unit {0}) Fault → Type 0
 SetsIfAny T folder number None old new volume volume' result = IsSame old new volume volume' × (result ≡ Ok tt)
 SetsIfAny T folder number (Some attributes) old new volume volume' result = SetsIn T folder number attributes old new volume volume' result
 

@@ -10,7 +10,7 @@
 use Rattle.std.specs.Prelude.{◌≡◌, ◌⊎◌, ℕ, Bool, false, true, List, [], ◌∷◌, ◌++◌, IsErr, MatchResult, Result, Ok}
 use Rattle.xn_model.specs.Lives.{StoreState}
 use Rattle.xn_model.specs.Types.{Types}
-use Rattle.treefs.specs.declared.volume.Volume.{Volume}
+use Rattle.tree_lines.specs.Values.{Volume}
 use Rattle.tree_lines.specs.Places.{IsFolder, IsOwnName}
 use Rattle.tree_lines.specs.Telling.{EndsLine, Tells}
 use Rattle.tree_lines.specs.Trees.{GoesIn, IsNodeIn}

@@ -19,15 +19,12 @@ use Rattle.xn_model.specs.Types.{Types}
 use Rattle.treefs_format.specs.declared.kind.Kind.{Kind}
 use Rattle.treefs_format.specs.declared.kind.Kind.TheVariants.{File, SymbolicLink}
 use Rattle.treefs_model.specs.declared.fault.Fault.{Fault}
-use Rattle.treefs.specs.Committing.{CommitDoes}
-use Rattle.treefs.specs.Creating.{BeginDoes}
-use Rattle.treefs.specs.declared.attributes.Attributes.{Attributes}
-use Rattle.treefs.specs.declared.volume.Volume.{Volume}
-use Rattle.treefs_session.specs.Freeing.{GivesUp, MakesFreely}
-use Rattle.treefs_session.specs.Pieces.{WritesAll}
-use Rattle.treefs_session.specs.Puts.{PutDoes}
-use Rattle.treefs_session.specs.declared.calls.bytes.Target.TheVariants.{Begun}
-use Rattle.treefs_session.specs.declared.put.Put.{Put}
+use Rattle.tree_lines.specs.Committing.{CommitDoes}
+use Rattle.tree_lines.specs.Creating.{BeginDoes}
+use Rattle.tree_lines.specs.Values.{Attributes, Begun, Put, Volume}
+use Rattle.tree_lines.specs.Freeing.{GivesUp, MakesFreely}
+use Rattle.tree_lines.specs.Pieces.{WritesAll}
+use Rattle.tree_lines.specs.Puts.{PutDoes}
 use Rattle.tree_lines.specs.Contents.{HasStretch, bytes_seen, target_seen}
 use Rattle.tree_lines.specs.declared.node.Node.{Node}
 use Rattle.tree_lines.specs.declared.node.Stretch.{Stretch}

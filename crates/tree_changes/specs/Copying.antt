@@ -5,7 +5,7 @@
 use Rattle.std.specs.Prelude.{◌≡◌, ◌⊎◌, ℕ, Bool, false, true, List, IsErr, Option, Result}
 use Rattle.xn_model.specs.Lives.{StoreState}
 use Rattle.xn_model.specs.Types.{Types}
-use Rattle.treefs.specs.declared.volume.Volume.{Volume}
+use Rattle.tree_lines.specs.Values.{Volume}
 use Rattle.tree_lines.specs.Places.{IsFolder, IsOwnName}
 use Rattle.tree_lines.specs.Trees.{GoesIn, IsNodeIn}
 use Rattle.tree_lines.specs.declared.node.Node.{Node}

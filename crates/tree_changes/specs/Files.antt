@@ -12,12 +12,11 @@ use Rattle.std.specs.Prelude.{◌≡◌, ◌⊎◌, ℕ, ℤ, Bool, false, true,
 use Rattle.xn_model.specs.Lives.{StoreState}
 use Rattle.xn_model.specs.Types.{Types}
 use Rattle.treefs_model.specs.declared.fault.Fault.{Fault}
-use Rattle.treefs.specs.Creating.{CreateDoes}
-use Rattle.treefs.specs.Setting.{MtimeDoes}
-use Rattle.treefs.specs.Sizing.{TruncateDoes}
-use Rattle.treefs.specs.declared.attributes.Attributes.{Attributes}
-use Rattle.treefs.specs.declared.volume.Volume.{Volume}
-use Rattle.treefs_session.specs.Freeing.{MakesFreely}
+use Rattle.tree_lines.specs.Creating.{CreateDoes}
+use Rattle.tree_lines.specs.Setting.{MtimeDoes}
+use Rattle.tree_lines.specs.Sizing.{TruncateDoes}
+use Rattle.tree_lines.specs.Values.{Attributes, Volume}
+use Rattle.tree_lines.specs.Freeing.{MakesFreely}
 use Rattle.tree_lines.specs.Looks.{FindsPath}
 use Rattle.tree_lines.specs.Trees.{IsPlaceIn}
 use Rattle.tree_lines.specs.declared.reason.Reason.TheVariants.{Missing}

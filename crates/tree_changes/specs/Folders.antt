@@ -6,10 +6,9 @@ use Rattle.std.specs.Prelude.{◌≡◌, ℕ, Bool, List, [], ◌∷◌, Result,
 use Rattle.xn_model.specs.Lives.{StoreState}
 use Rattle.xn_model.specs.Types.{Types}
 use Rattle.treefs_model.specs.declared.fault.Fault.{Fault}
-use Rattle.treefs.specs.Unlinking.{RmdirDoes}
-use Rattle.treefs.specs.declared.attributes.Attributes.{Attributes}
-use Rattle.treefs.specs.declared.volume.Volume.{Volume}
-use Rattle.treefs_session.specs.Freeing.{MakesFreely}
+use Rattle.tree_lines.specs.Unlinking.{RmdirDoes}
+use Rattle.tree_lines.specs.Values.{Attributes, Volume}
+use Rattle.tree_lines.specs.Freeing.{MakesFreely}
 use Rattle.tree_lines.specs.Trees.{IsPlaceIn}
 use Rattle.tree_changes.specs.Paths.{IsRefused}
 

@@ -13,10 +13,9 @@ use Rattle.std.specs.List.{range_with_len}
 use Rattle.xn_model.specs.Lives.{StoreState}
 use Rattle.xn_model.specs.Types.{Types}
 use Rattle.treefs_model.specs.declared.fault.Fault.{Fault}
-use Rattle.treefs.specs.Creating.{MkdirDoes}
-use Rattle.treefs.specs.declared.attributes.Attributes.{Attributes}
-use Rattle.treefs.specs.declared.volume.Volume.{Volume}
-use Rattle.treefs_session.specs.Freeing.{MakesFreely}
+use Rattle.tree_lines.specs.Creating.{MkdirDoes}
+use Rattle.tree_lines.specs.Values.{Attributes, Volume}
+use Rattle.tree_lines.specs.Freeing.{MakesFreely}
 use Rattle.tree_lines.specs.Places.{IsFolder}
 use Rattle.tree_lines.specs.Trees.{IsNodeIn, IsNowhereIn, IsPlaceIn}
 use Rattle.tree_lines.specs.declared.node.Node.{Node}

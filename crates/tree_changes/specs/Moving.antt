@@ -11,9 +11,9 @@ use Rattle.std.specs.Prelude.{◌≡◌, ◌≢◌, ◌⊎◌, ℕ, Bool, List, 
 use Rattle.xn_model.specs.Lives.{StoreState}
 use Rattle.xn_model.specs.Types.{Types}
 use Rattle.treefs_model.specs.declared.fault.Fault.{Fault}
-use Rattle.treefs.specs.Renaming.{RenameDoes}
-use Rattle.treefs.specs.declared.volume.Volume.{Volume}
-use Rattle.treefs_session.specs.Freeing.{MakesFreely}
+use Rattle.tree_lines.specs.Renaming.{RenameDoes}
+use Rattle.tree_lines.specs.Values.{Volume}
+use Rattle.tree_lines.specs.Freeing.{MakesFreely}
 use Rattle.tree_lines.specs.Looks.{FindsPath, node_seen}
 use Rattle.tree_lines.specs.Places.{IsFolder, IsGoal, IsOwnName}
 use Rattle.tree_lines.specs.Trees.{GoesIn, IsPlaceIn, IsThereIn}

@@ -10,11 +10,10 @@ use Rattle.xn_model.specs.Lives.{StoreState}
 use Rattle.xn_model.specs.Types.{Types}
 use Rattle.treefs_format.specs.declared.kind.Kind.TheVariants.{SymbolicLink}
 use Rattle.treefs_model.specs.declared.fault.Fault.{Fault}
-use Rattle.treefs.specs.Linking.{LinkDoes}
-use Rattle.treefs.specs.declared.volume.Volume.{Volume}
-use Rattle.treefs_session.specs.Freeing.{MakesFreely}
-use Rattle.treefs_session.specs.Puts.{PutDoes}
-use Rattle.treefs_session.specs.declared.put.Put.{Put}
+use Rattle.tree_lines.specs.Linking.{LinkDoes}
+use Rattle.tree_lines.specs.Values.{Put, Volume}
+use Rattle.tree_lines.specs.Freeing.{MakesFreely}
+use Rattle.tree_lines.specs.Puts.{PutDoes}
 use Rattle.tree_lines.specs.Places.{IsFolder, IsLastName, IsOwnName}
 use Rattle.tree_lines.specs.Trees.{GoesIn, IsNodeIn}
 use Rattle.tree_lines.specs.declared.node.Node.{Node}

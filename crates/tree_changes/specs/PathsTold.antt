@@ -7,7 +7,7 @@
 --     TellsPaths     what a word does at some paths; or the line ended at one of them
 use Rattle.std.specs.Prelude.{◌≡◌, ◌⊎◌, ℕ, List, [], ◌∷◌, ◌++◌, Result, MatchResult}
 use Rattle.xn_model.specs.Lives.{StoreState}
-use Rattle.treefs.specs.declared.volume.Volume.{Volume}
+use Rattle.tree_lines.specs.Values.{Volume}
 use Rattle.tree_lines.specs.Telling.{EndsLine, Tells}
 use Rattle.tree_lines.specs.declared.fault.Fault.{Fault}
 use Rattle.tree_lines.specs.declared.fault.Fault.TheVariants.{NoMemory}

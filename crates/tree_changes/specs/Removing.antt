@@ -9,9 +9,9 @@ use Rattle.std.specs.Prelude.{◌≡◌, ◌⊎◌, ℕ, Bool, false, true, List
 use Rattle.xn_model.specs.Lives.{StoreState}
 use Rattle.xn_model.specs.Types.{Types}
 use Rattle.treefs_model.specs.declared.fault.Fault.{Fault}
-use Rattle.treefs.specs.Unlinking.{UnlinkDoes}
-use Rattle.treefs.specs.declared.volume.Volume.{Volume}
-use Rattle.treefs_session.specs.Freeing.{MakesFreely}
+use Rattle.tree_lines.specs.Unlinking.{UnlinkDoes}
+use Rattle.tree_lines.specs.Values.{Volume}
+use Rattle.tree_lines.specs.Freeing.{MakesFreely}
 use Rattle.tree_lines.specs.Looks.{FindsPath}
 use Rattle.tree_lines.specs.Places.{IsFolder, IsOwnName, StopsBefore}
 use Rattle.tree_lines.specs.Trees.{IsPlaceIn, IsThereIn}

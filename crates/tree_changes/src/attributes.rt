@@ -5,8 +5,7 @@ ghost use Rattle.tree_changes.specs.Copies.{HasRightsOf};
 ghost use Rattle.tree_changes.specs.Folders.{IsNew};
 
 use flush_store::FlushStore;
-use tree_lines::{Node, Opened};
-use treefs::Attributes;
+use tree_lines::{Attributes, Node, Opened};
 
 /// What is said of something new in a volume with these permissions, which belongs to user and group 0.
 pub fn attributes_with<S: FlushStore + Drop>(opened: &Opened<S>, permissions: u16) -> Attributes

@@ -16,10 +16,9 @@ use crate::linking::put_name;
 use flush_store::FlushStore;
 use std::alloc::{AllocError, Global};
 use std::collections::BTreeMap;
-use tree_lines::{Fault, Node, Opened, Place, View, at_bytes};
+use tree_lines::{Begin, Change, Commit, Fault, Node, Opened, Place, Put, Target, View, at_bytes};
 use treefs_edits::fronts::front;
 use treefs_format::Kind;
-use treefs_session::{Begin, Change, Commit, Put, Target};
 
 /// So many bytes are copied at once.
 const PIECE: usize = 262_144;

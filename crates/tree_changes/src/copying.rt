@@ -2,6 +2,9 @@
 
 ghost use Rattle.std.specs.Prelude.{◌≡◌, ◌⊎◌, Bool, Err, IfOk, MatchResult, Ok, Some, false, length, map, nat_lt, true, vec_len};
 ghost use Rattle.treefs_model.specs.declared.fault.Fault.{Fault as Why};
+ghost use Rattle.tree_lines.specs.Answers.{Answers};
+ghost use Rattle.tree_lines.specs.Telling.{EndsLine};
+ghost use Rattle.tree_lines.specs.Walks.{met_of, outcome_of, progress};
 ghost use Rattle.tree_changes.specs.CopiedFiles.{CopiesOver, IsReplaced, LeavesOver, with_rights_of};
 ghost use Rattle.tree_changes.specs.CopiedFolders.{CopiesFolder, IsBelow, LeavesFolder};
 ghost use Rattle.tree_changes.specs.CopiedPaths.{CopiesAllAt, CopiesTrees, LeavesAllAt, StopsAllAt};
@@ -10,9 +13,6 @@ ghost use Rattle.tree_changes.specs.CopiedTrees.{GivesTime, LeavesTree, StopsMet
 ghost use Rattle.tree_changes.specs.Copying.{CopiesAt, CopiesPaths, IsLeftAt};
 ghost use Rattle.tree_changes.specs.Moving.{HasGoal};
 ghost use Rattle.tree_changes.specs.Paths.{AtPath};
-ghost use Rattle.tree_lines.specs.Answers.{Answers};
-ghost use Rattle.tree_lines.specs.Telling.{EndsLine};
-ghost use Rattle.tree_lines.specs.Walks.{met_of, outcome_of, progress};
 
 use crate::attributes::attributes_of;
 use crate::copies::{Copied, Copying, copy_file, keep_time};
@@ -20,10 +20,9 @@ use crate::moving::{goal_path, reason_against};
 use flush_store::FlushStore;
 use std::alloc::{AllocError, Global};
 use tree_lines::{
-    Fault, Goal, Node, Opened, Place, Reason, Step, TOP, View, Visit, Walk, at, at_bytes, find,
-    find_to, own_name, there,
+    Fault, Goal, Mkdir, Node, Opened, Place, Reason, Step, TOP, View, Visit, Walk, at, at_bytes,
+    find, find_to, own_name, there,
 };
-use treefs_session::Mkdir;
 
 /// More folders than stand above one another.
 const MOST_DEPTH: u32 = 262_209_296;

@@ -8,8 +8,7 @@ ghost use Rattle.tree_changes.specs.Paths.{AtPath, DoesPaths};
 use crate::attributes::attributes_with;
 use flush_store::FlushStore;
 use std::alloc::Global;
-use tree_lines::{Fault, Opened, Reason, View, at, place_of};
-use treefs_session::{Change, Mkdir};
+use tree_lines::{Change, Fault, Mkdir, Opened, Reason, View, at, place_of};
 
 /// The permissions of a new folder.
 const PERMISSIONS: u16 = 0o755;

@@ -14,8 +14,7 @@ ghost use Rattle.tree_changes.specs.Removing.{UnlinkIn};
 use crate::copies::Copied;
 use flush_store::FlushStore;
 use std::alloc::Global;
-use tree_lines::{Fault, Opened, Place, Reason, View, at_bytes, there};
-use treefs_session::Change;
+use tree_lines::{Change, Fault, Opened, Place, Reason, View, at_bytes, there};
 
 /// So many names are tried for one beside a place. A stop may leave it.
 const MOST_NAMES: u32 = 10_000;

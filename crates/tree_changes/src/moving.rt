@@ -11,10 +11,9 @@ use flush_store::FlushStore;
 use std::alloc::{AllocError, Global};
 use std::collections::BTreeSet;
 use tree_lines::{
-    Fault, Goal, Node, Opened, Place, Reason, at, at_bytes, below, find_to, own_name, place_of,
-    there,
+    Change, Fault, Goal, Node, Opened, Place, Reason, at, at_bytes, below, find_to, own_name,
+    place_of, there,
 };
-use treefs_session::Change;
 
 /// The path of what goes to a goal that is told by a path.
 pub fn goal_path(alloc: Global, to: &str, goal: Goal, name: &[u8]) -> Result<Vec<u8>, AllocError> {

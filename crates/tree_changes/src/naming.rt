@@ -8,9 +8,10 @@ use crate::attributes::attributes_with;
 use crate::moving::goal_path;
 use flush_store::FlushStore;
 use std::alloc::Global;
-use tree_lines::{Fault, Opened, Place, Reason, at, at_bytes, find, find_to, last_name, own_name};
+use tree_lines::{
+    Change, Fault, Opened, Place, Put, Reason, at, at_bytes, find, find_to, last_name, own_name,
+};
 use treefs_format::Kind;
-use treefs_session::{Change, Put};
 
 /// How many bytes the target of a symbolic link has at most.
 const TARGET_LEN: usize = 4_096;

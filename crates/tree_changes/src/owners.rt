@@ -5,8 +5,7 @@ ghost use Rattle.tree_changes.specs.Attributes.{owner_of};
 ghost use Rattle.tree_changes.specs.OwnerTexts.{IsOwnersTold, IsPartTold};
 
 use crate::numbers::read_number;
-use tree_lines::Node;
-use treefs_byte_plans::Owner;
+use tree_lines::{Node, Owner};
 
 /// A user, a group, or both.
 #[derive(Clone, Copy, Debug, PartialEq, Eq)]

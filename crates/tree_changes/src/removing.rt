@@ -2,21 +2,22 @@
 
 ghost use Rattle.std.specs.Prelude.{◌≡◌, ◌↔◌, Err, IfErr, IfOk, IsTrue, MatchResult, false, map, nat_lt, true};
 ghost use Rattle.treefs_model.specs.declared.fault.Fault.{Fault as Why};
+ghost use Rattle.tree_lines.specs.Answers.{Answers};
+ghost use Rattle.tree_lines.specs.Telling.{EndsLine, count_of};
+ghost use Rattle.tree_lines.specs.Trees.{ComesIn};
+ghost use Rattle.tree_lines.specs.Walks.{IsUnseen, progress};
 ghost use Rattle.tree_changes.specs.Emptying.{Empties, EmptiesUpTo, KeepsNamed, KeepsSome, KeepsTree, RemovesAll, RemovesAllNamed, RemovesTree};
 ghost use Rattle.tree_changes.specs.Emptying.{TakesIfAny, TakesName, TellsLeft, step_visited};
 ghost use Rattle.tree_changes.specs.Folders.{RmdirIn};
 ghost use Rattle.tree_changes.specs.Paths.{AtPath, DoesPaths, IsSame};
 ghost use Rattle.tree_changes.specs.PathsTold.{AtPathTold, TellsPaths};
 ghost use Rattle.tree_changes.specs.Removing.{IsKept, IsNameKept, Removes, RemovesNamed, TellsMissing, UnlinkIn};
-ghost use Rattle.tree_lines.specs.Answers.{Answers};
-ghost use Rattle.tree_lines.specs.Telling.{EndsLine, count_of};
-ghost use Rattle.tree_lines.specs.Trees.{ComesIn};
-ghost use Rattle.tree_lines.specs.Walks.{IsUnseen, progress};
 
 use flush_store::FlushStore;
 use std::alloc::Global;
-use tree_lines::{Fault, Opened, Place, Reason, Step, Visit, Walk, at, own_name, place_of, there};
-use treefs_session::Change;
+use tree_lines::{
+    Change, Fault, Opened, Place, Reason, Step, Visit, Walk, at, own_name, place_of, there,
+};
 
 /// How `rm` removes.
 #[derive(Clone, Copy, Debug)]

@@ -1,20 +1,18 @@
 // The words `chmod` and `chown`.
 
 ghost use Rattle.std.specs.Prelude.{◌≡◌, IfErr, false, map, true};
+ghost use Rattle.tree_lines.specs.Answers.{Answers};
+ghost use Rattle.tree_lines.specs.Telling.{EndsLine};
 ghost use Rattle.tree_changes.specs.Attributes.{IsSet, IsUnset, SetsIfAny, set_of};
 ghost use Rattle.tree_changes.specs.Below.{SetsBelow, SetsTree, SetsTreeAt, SetsTreeUpTo};
 ghost use Rattle.tree_changes.specs.Paths.{AtPath, DoesPaths};
 ghost use Rattle.tree_changes.specs.PathsTold.{TellsPaths};
-ghost use Rattle.tree_lines.specs.Answers.{Answers};
-ghost use Rattle.tree_lines.specs.Telling.{EndsLine};
 
 use crate::modes::Modes;
 use crate::owners::Owners;
 use flush_store::FlushStore;
 use std::alloc::Global;
-use tree_lines::{Fault, Node, Opened, Walk, find};
-use treefs_byte_plans::Attributes;
-use treefs_session::Change;
+use tree_lines::{Change, Fault, Node, Opened, Settings, Walk, find};
 
 /// What is set.
 #[derive(Debug, Drop)]
@@ -25,17 +23,17 @@ pub enum Setting {
 
 impl Setting {
     /// What is set of a node; nothing of the modes of symbolic links.
-    fn attributes_of(&self, node: &Node) -> Option<Attributes>
+    fn attributes_of(&self, node: &Node) -> Option<Settings>
         ensures { result ≡ set_of self.now node.now }
     {
         match self {
             Setting::Modes(_) if node.is_link() => None,
-            Setting::Modes(modes) => Some(Attributes {
+            Setting::Modes(modes) => Some(Settings {
                 permissions: Some(modes.apply(node.permissions, node.is_folder())),
                 owner: None,
                 mtime: None,
             }),
-            Setting::Owners(owners) => Some(Attributes {
+            Setting::Owners(owners) => Some(Settings {
                 permissions: None,
                 owner: Some(owners.owner_of(node)),
                 mtime: None,

@@ -7,9 +7,7 @@ ghost use Rattle.tree_changes.specs.Paths.{AtPath, DoesPaths, IsRefused};
 use crate::attributes::attributes_with;
 use flush_store::FlushStore;
 use std::alloc::Global;
-use tree_lines::{Fault, Opened, Reason, View, at, place_of};
-use treefs::Volume;
-use treefs_session::{Change, Create};
+use tree_lines::{Change, Create, Fault, Opened, Reason, View, Volume, at, place_of};
 
 /// The permissions of a new file.
 const PERMISSIONS: u16 = 0o644;

@@ -4,7 +4,7 @@ use crate::fault::DiskFault;
 use edit_list::Fs;
 use std::alloc::{AllocError, Global};
 use templates::ROOT_SLOTS;
-use treefs::BlockTypes;
+use tree_lines::BlockTypes;
 use treefs_format::types::are_tree_templates;
 use xn_state::Store;
 use xnfs_session::has_volume;

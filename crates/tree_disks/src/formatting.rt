@@ -10,9 +10,8 @@ use std::fs::{File, Files};
 use std::thread::Threads;
 use store_types::{BLOCK_LEN, MAX_BLOCKS, MIN_BLOCKS};
 use templates::{FIRST_INSTALLED_TYPE, FormatFault, format_image};
-use treefs::BlockTypes;
+use tree_lines::{BlockTypes, Session};
 use treefs_format::types::tree_templates;
-use treefs_session::Session;
 use xn_kernel::Kernel;
 
 /// Of so many blocks at most a fresh disk is made in memory: its volume stands in the first ones, and all others are zeros.

@@ -2,7 +2,7 @@
 use Rattle.std.proofs.Common.{◌≡◌, Result, Ok, Err, subst, sym}
 use Rattle.xn_model.specs.Lives.{StoreState}
 use Rattle.treefs_model.specs.declared.fault.Fault.{Fault}
-use Rattle.treefs.specs.declared.volume.Volume.{Volume}
+use Rattle.treefs_session.specs.Values.{Volume}
 use Rattle.tree_lines.specs.Answers.{Answers, IsTold}
 
 pub kept : (P : StoreState → Volume → Type 0) (new new' : StoreState) (volume volume' : Volume) → new' ≡ new → volume' ≡ volume → P new volume → P new' volume'

@@ -16,8 +16,8 @@ use Rattle.treefs_lookup.specs.Sought.{AreWithout, IsNextBucket}
 use Rattle.treefs_lookup.specs.declared.bucket.Bucket.{Bucket}
 use Rattle.treefs_lookup.specs.declared.inodes.Found.{Found}
 use Rattle.treefs_lookup.specs.declared.sought.Sought.TheVariants.{Live}
-use Rattle.treefs.specs.Reads.{IsBucketFound, IsReadDirectory}
-use Rattle.treefs.specs.declared.volume.Volume.{Volume}
+use Rattle.treefs_session.specs.Reads.{IsBucketFound, IsReadDirectory}
+use Rattle.treefs_session.specs.Values.{Volume}
 use Rattle.tree_lines.specs.Listing.{AreNamesFrom, ListsFolder, ReadsFolder, entry_cmp, live_names}
 use Rattle.tree_lines.specs.Listing.AreNamesFrom.{no_more, one_more}
 use Rattle.tree_lines.specs.Walks.{entry_of}

@@ -11,7 +11,7 @@ use Rattle.treefs_lookup.specs.Bytes.{bytes_from, count_from}
 use Rattle.treefs_lookup.specs.Inodes.{file_found, inode_found, link_found}
 use Rattle.treefs_lookup.specs.Readable.{readable}
 use Rattle.treefs_lookup.specs.declared.inodes.Found.{Found}
-use Rattle.treefs.specs.declared.volume.Volume.{Volume}
+use Rattle.treefs_session.specs.Values.{Volume}
 use Rattle.tree_lines.specs.Reasons.{reason_of}
 use Rattle.tree_lines.specs.Stretches.{IsNextStretch}
 use Rattle.tree_lines.specs.declared.node.Stretch.{Stretch}

@@ -1,3 +1,15 @@
+pub use Rattle.treefs_session.specs.Committing
+pub use Rattle.treefs_session.specs.Creating
+pub use Rattle.treefs_session.specs.Freeing
+pub use Rattle.treefs_session.specs.Linking
+pub use Rattle.treefs_session.specs.Opening
+pub use Rattle.treefs_session.specs.Pieces
+pub use Rattle.treefs_session.specs.Puts
+pub use Rattle.treefs_session.specs.Renaming
+pub use Rattle.treefs_session.specs.Setting
+pub use Rattle.treefs_session.specs.Sizing
+pub use Rattle.treefs_session.specs.Unlinking
+pub mod Values
 pub mod Reasons
 pub mod Looks
 pub mod Stretches

@@ -19,7 +19,7 @@ use Rattle.treefs_lookup.specs.Sought.{AreWithout, IsNextBucket}
 use Rattle.treefs_lookup.specs.declared.bucket.Bucket.{Bucket}
 use Rattle.treefs_lookup.specs.declared.inodes.Found.{Found}
 use Rattle.treefs_lookup.specs.declared.sought.Sought.TheVariants.{Live}
-use Rattle.treefs.specs.declared.volume.Volume.{Volume}
+use Rattle.treefs_session.specs.Values.{Volume}
 use Rattle.tree_lines.specs.Reasons.{reason_of}
 use Rattle.tree_lines.specs.declared.reason.Reason.{Reason}
 use Rattle.tree_lines.specs.declared.reason.Reason.TheVariants.{NoMemory}

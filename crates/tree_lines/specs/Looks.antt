@@ -10,8 +10,8 @@ use Rattle.treefs_model.specs.declared.fault.Fault.{Fault}
 use Rattle.treefs_lookup.specs.Readable.{readable}
 use Rattle.treefs_lookup.specs.declared.inodes.Found.{Found}
 use Rattle.treefs_paths.specs.Ways.{Leads, first_way}
-use Rattle.treefs.specs.Reads.{lookup_of, stat_of}
-use Rattle.treefs.specs.declared.volume.Volume.{Volume}
+use Rattle.treefs_session.specs.Reads.{lookup_of, stat_of}
+use Rattle.treefs_session.specs.Values.{Volume}
 use Rattle.tree_lines.specs.Reasons.{path_reason_of, reason_of}
 use Rattle.tree_lines.specs.declared.node.Node.{Node}
 use Rattle.tree_lines.specs.declared.reason.Reason.{Reason}

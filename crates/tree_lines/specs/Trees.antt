@@ -7,7 +7,7 @@
 --     ComesIn        what a walk comes to, where some outcomes are passed over
 use Rattle.std.specs.Prelude.{◌≡◌, ℕ, Bool, List, Option}
 use Rattle.xn_model.specs.Lives.{StoreState}
-use Rattle.treefs.specs.declared.volume.Volume.{Volume}
+use Rattle.treefs_session.specs.Values.{Volume}
 use Rattle.tree_lines.specs.Listing.{ListsFolder}
 use Rattle.tree_lines.specs.Looks.{FindsPath, node_seen, number_seen}
 use Rattle.tree_lines.specs.Places.{GoesTo, IsFoundNode, IsPlace, IsThere, LeadsNowhere}

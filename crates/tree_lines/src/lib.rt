@@ -29,5 +29,9 @@ pub use paths::{Goal, Place, TOP, find, find_to, last_name, own_name, place_of, 
 pub use reason::{Reason, naming_reason_of, path_reason_of, reason_of, refusal_reason_of};
 pub use showing::{below, shown};
 pub use told::Told;
+pub use treefs_session::{
+    Attributes, Begin, BlockTypes, Change, Commit, Create, Mkdir, Owner, Put, Session, Settings,
+    Target, Volume,
+};
 pub use view::View;
 pub use walking::{Step, Visit, Walk};

@@ -3,9 +3,8 @@
 ghost use Rattle.std.specs.Prelude.{◌≡◌, ◌∷◌, Bool, IfErr, IfOk, List, MatchBool, OnOk, Result, [], length};
 ghost use Rattle.flush_store.specs.Written.{AllWritten};
 ghost use Rattle.treefs_model.specs.declared.fault.Fault.{Fault as Why};
-ghost use Rattle.treefs_mounts.specs.Opening.{MendsVolume};
+ghost use Rattle.treefs_session.specs.Opening.{Closes, IsNotClosed, IsNotOpened, IsOpened, MendsVolume};
 ghost use Rattle.treefs_session.specs.Freeing.{GivesUp, MakesFreely, Syncs};
-ghost use Rattle.treefs_session.specs.Opening.{Closes, IsNotClosed, IsNotOpened, IsOpened};
 ghost use Rattle.treefs_session.specs.Pieces.{WritesAll};
 ghost use Rattle.treefs_session.specs.Puts.{PutDoes};
 ghost use Rattle.tree_lines.specs.Answers.{Answers, IsTold};
@@ -19,10 +18,9 @@ use file_disk::SystemFault;
 use flush_store::FlushStore;
 use std::alloc::Global;
 use store_types::Refusal;
-use treefs::BlockTypes;
 use treefs_model::Fault as TreeFault;
 use treefs_session::law::closes_and_syncs_write;
-use treefs_session::{Call, Put, Session, Target};
+use treefs_session::{BlockTypes, Call, Put, Session, Target};
 
 /// An open volume of trees, and what its lines know of it.
 pub struct Opened<S: FlushStore> {

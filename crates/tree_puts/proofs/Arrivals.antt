@@ -5,7 +5,7 @@ use Rattle.std.proofs.lemmas.List.{append-nil, append_assoc, drop-take, drop_all
 use Rattle.std.specs.Prelude.{IfOk, IsErr, MatchOption, slice_range}
 use Rattle.xn_model.specs.Lives.{StoreState}
 use Rattle.xn_model.specs.Types.{Types}
-use Rattle.treefs.specs.declared.volume.Volume.{Volume}
+use Rattle.tree_lines.specs.Values.{Volume}
 use Rattle.tree_puts.specs.Actions.{Action, Calls, Performs}
 use Rattle.tree_puts.specs.Actions.Action.{writes}
 use Rattle.tree_puts.specs.Arriving.{IsCutShort, IsWritten, StopsIn, WritesArrived, WritesEach, WritesSome, written}

@@ -3,7 +3,7 @@ use Rattle.std.proofs.Common.{◌≡◌, ℕ, List, Result, Ok, Err, inl, inr, r
 use Rattle.std.specs.Prelude.{IsErr}
 use Rattle.xn_model.specs.Lives.{StoreState}
 use Rattle.xn_model.specs.Types.{Types}
-use Rattle.treefs.specs.declared.volume.Volume.{Volume}
+use Rattle.tree_lines.specs.Values.{Volume}
 use Rattle.tree_puts.specs.Actions.{Performs}
 use Rattle.tree_puts.specs.Linking.{LinksAs, LinksBeside, MovesToPlace}
 use Rattle.tree_puts.specs.declared.arriving.Goods.{Goods}

@@ -2,8 +2,7 @@
 use Rattle.std.proofs.Common.{ℕ, Result}
 use Rattle.xn_model.specs.Lives.{StoreState}
 use Rattle.xn_model.specs.Types.{Types}
-use Rattle.treefs.specs.declared.attributes.Attributes.{Attributes}
-use Rattle.treefs.specs.declared.volume.Volume.{Volume}
+use Rattle.tree_lines.specs.Values.{Attributes, Volume}
 use Rattle.tree_lines.specs.Answers.{Answers}
 use Rattle.tree_puts.specs.Actions.{Does, Performs}
 use Rattle.tree_puts.specs.Actions.Action.{makes_folder}

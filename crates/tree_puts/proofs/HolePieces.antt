@@ -6,7 +6,7 @@ use Rattle.std.proofs.lemmas.List.{append-nil, length-take}
 use Rattle.std.specs.Prelude.{IsErr}
 use Rattle.xn_model.specs.Lives.{StoreState}
 use Rattle.xn_model.specs.Types.{Types}
-use Rattle.treefs.specs.declared.volume.Volume.{Volume}
+use Rattle.tree_lines.specs.Values.{Volume}
 use Rattle.tree_puts.specs.Actions.{Performs}
 use Rattle.tree_puts.specs.Arriving.{IsWritten, WritesHoles, WritesSome, written}
 use Rattle.tree_puts.specs.Holes.{end_at, hole_end, hole_writes, is_open_behind, is_open_with, is_piece_open, piece_stretches}

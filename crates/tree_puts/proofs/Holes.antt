@@ -7,7 +7,7 @@ use Rattle.std.proofs.lemmas.List.{append_assoc, drop_at, drop_min, map-append, 
 use Rattle.xn_model.specs.Lives.{StoreState}
 use Rattle.xn_model.specs.Types.{Types}
 use Rattle.treefs_model.specs.declared.fault.Fault.{Fault}
-use Rattle.treefs.specs.declared.volume.Volume.{Volume}
+use Rattle.tree_lines.specs.Values.{Volume}
 use Rattle.tree_puts.specs.Actions.{Action, Performs}
 use Rattle.tree_puts.specs.Actions.Action.{writes}
 use Rattle.tree_puts.specs.Arriving.{IsWritten, WritesSome, written}

@@ -4,10 +4,9 @@ use Rattle.std.specs.Prelude.{IsErr, IsOk, MatchBool}
 use Rattle.xn_model.specs.Lives.{StoreState}
 use Rattle.xn_model.specs.Types.{Types}
 use Rattle.treefs_model.specs.declared.fault.Fault.{Fault}
-use Rattle.treefs.specs.declared.volume.Volume.{Volume}
-use Rattle.treefs_session.specs.Freeing.{GivesUp}
-use Rattle.treefs_session.specs.Puts.{PutDoes}
-use Rattle.treefs_session.specs.declared.put.Put.{Put}
+use Rattle.tree_lines.specs.Values.{Put, Volume}
+use Rattle.tree_lines.specs.Freeing.{GivesUp}
+use Rattle.tree_lines.specs.Puts.{PutDoes}
 use Rattle.tree_lines.specs.Answers.{Answers}
 use Rattle.tree_puts.specs.Actions.{Action, Calls, Does, OrElse, Performs, Runs}
 use Rattle.tree_puts.specs.Actions.Action.{gives_up, puts}

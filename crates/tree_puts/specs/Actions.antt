@@ -13,20 +13,16 @@ use Rattle.xn_model.specs.Lives.{StoreState}
 use Rattle.xn_model.specs.Types.{Types}
 use Rattle.treefs_format.specs.declared.kind.Kind.{Kind}
 use Rattle.treefs_model.specs.declared.fault.Fault.{Fault}
-use Rattle.treefs_byte_plans.specs.declared.attributes.Attributes.{Attributes as Settings}
-use Rattle.treefs.specs.Committing.{CommitDoes}
-use Rattle.treefs.specs.Creating.{BeginDoes, MkdirDoes}
-use Rattle.treefs.specs.Linking.{LinkDoes}
-use Rattle.treefs.specs.Renaming.{RenameDoes}
-use Rattle.treefs.specs.Setting.{AttributesDoes, MtimeDoes}
-use Rattle.treefs.specs.Unlinking.{UnlinkDoes}
-use Rattle.treefs.specs.declared.attributes.Attributes.{Attributes}
-use Rattle.treefs.specs.declared.volume.Volume.{Volume}
-use Rattle.treefs_session.specs.Freeing.{GivesUp, MakesFreely}
-use Rattle.treefs_session.specs.Pieces.{WritesAll}
-use Rattle.treefs_session.specs.Puts.{PutDoes}
-use Rattle.treefs_session.specs.declared.calls.bytes.Target.TheVariants.{Begun}
-use Rattle.treefs_session.specs.declared.put.Put.{Put}
+use Rattle.tree_lines.specs.Values.{Attributes, Begun, Put, Settings, Volume}
+use Rattle.tree_lines.specs.Committing.{CommitDoes}
+use Rattle.tree_lines.specs.Creating.{BeginDoes, MkdirDoes}
+use Rattle.tree_lines.specs.Linking.{LinkDoes}
+use Rattle.tree_lines.specs.Renaming.{RenameDoes}
+use Rattle.tree_lines.specs.Setting.{AttributesDoes, MtimeDoes}
+use Rattle.tree_lines.specs.Unlinking.{UnlinkDoes}
+use Rattle.tree_lines.specs.Freeing.{GivesUp, MakesFreely}
+use Rattle.tree_lines.specs.Pieces.{WritesAll}
+use Rattle.tree_lines.specs.Puts.{PutDoes}
 
 pub data Action : Type 0 where
   -- an inode is begun with its first bytes

@@ -16,9 +16,8 @@ use Rattle.std.specs.Prelude.{MatchResult}
 use Rattle.treefs_format.specs.declared.kind.Kind.{Kind}
 use Rattle.treefs_format.specs.declared.kind.Kind.TheVariants.{File, SymbolicLink}
 use Rattle.treefs_model.specs.declared.fault.Fault.{Fault}
-use Rattle.treefs_byte_plans.specs.declared.attributes.Attributes.{Attributes as Settings}
-use Rattle.treefs.specs.declared.attributes.Attributes.{Attributes}
 use Rattle.host_trees.specs.declared.attributes.Attributes.{Attributes as Told}
+use Rattle.tree_lines.specs.Values.{Attributes, Settings}
 use Rattle.tree_puts.specs.Actions.{Action, Calls, Nothing, OrElse, Then}
 use Rattle.tree_puts.specs.Actions.Action.{begins, gives_up, names, puts, sets, sets_time, writes}
 use Rattle.tree_puts.specs.Holes.{hole_end, hole_writes, is_sparse}

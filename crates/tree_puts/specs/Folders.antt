@@ -14,7 +14,7 @@
 use Rattle.std.specs.Prelude.{◌≡◌, ◌⊎◌, ℕ, List, map, None, Some, Result, Ok, Err}
 use Rattle.std.specs.String.{string_bytes}
 use Rattle.host_trees.specs.declared.attributes.Attributes.{Attributes as Told}
-use Rattle.treefs.specs.declared.attributes.Attributes.{Attributes}
+use Rattle.tree_lines.specs.Values.{Attributes}
 use Rattle.tree_lines.specs.Places.{IsFolder}
 use Rattle.tree_lines.specs.Trees.{IsThereIn}
 use Rattle.tree_lines.specs.declared.fault.Fault.{Fault as LineFault}

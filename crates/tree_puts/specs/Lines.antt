@@ -14,7 +14,7 @@ use Rattle.std.specs.Prelude.{◌≡◌, ◌⊎◌, ℕ, List}
 use Rattle.std.specs.BTreeMap.{BTreeMap}
 use Rattle.xn_model.specs.Lives.{StoreState}
 use Rattle.xn_model.specs.Types.{Types}
-use Rattle.treefs.specs.declared.volume.Volume.{Volume}
+use Rattle.tree_lines.specs.Values.{Volume}
 use Rattle.tree_lines.specs.Telling.{Tells}
 use Rattle.tree_lines.specs.declared.fault.Fault.{Fault as LineFault}
 use Rattle.tree_lines.specs.declared.told.Told.{Told as Faults}

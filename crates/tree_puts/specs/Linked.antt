@@ -9,8 +9,8 @@ use Rattle.std.specs.BTreeMap.{BTreeMap, IsUnchanged, get, insert_entry, is_at}
 use Rattle.std.specs.declared.cmp.Ordering.{Ordering}
 use Rattle.std.specs.Map.{remove_entry}
 use Rattle.xn_model.specs.Lives.{StoreState}
-use Rattle.treefs.specs.declared.volume.Volume.{Volume}
 use Rattle.host_trees.specs.declared.attributes.Attributes.{Attributes as Told}
+use Rattle.tree_lines.specs.Values.{Volume}
 use Rattle.tree_lines.specs.Trees.{IsThereIn}
 use Rattle.tree_lines.specs.declared.node.Node.{Node}
 

@@ -25,10 +25,10 @@ use Rattle.std.specs.Prelude.{IsErr, MatchOption, MatchResult, Option, None, Som
 use Rattle.std.specs.BTreeMap.{BTreeMap}
 use Rattle.xn_model.specs.Lives.{StoreState}
 use Rattle.treefs_format.specs.declared.kind.Kind.TheVariants.{SymbolicLink}
-use Rattle.treefs.specs.declared.volume.Volume.{Volume}
 use Rattle.host_trees.specs.Naming.{own_name}
 use Rattle.host_trees.specs.declared.attributes.Attributes.{Attributes as Told}
 use Rattle.host_trees.specs.declared.attributes.Kind.TheVariants.{File, Folder}
+use Rattle.tree_lines.specs.Values.{Volume}
 use Rattle.tree_lines.specs.Looks.{FindsPath, node_seen, number_seen}
 use Rattle.tree_lines.specs.Places.{IsGoal, IsTo, goal_folder, goal_name, goal_slash}
 use Rattle.tree_lines.specs.Telling.{GoesOn}

@@ -13,13 +13,13 @@ use flush_store::FlushStore;
 use host_trees::{Attributes as HostAttributes, Host, PIECE, Progress};
 use std::alloc::{AllocError, Global};
 use std::collections::BTreeMap;
-use tree_lines::{Fault, Opened, Place, Reason, at_bytes, system, there};
-use treefs::Attributes;
-use treefs_byte_plans::{Attributes as Settings, Owner};
+use tree_lines::{
+    Attributes, Begin, Change, Commit, Fault, Opened, Owner, Place, Put, Reason, Settings, Target,
+    at_bytes, system, there,
+};
 use treefs_format::Kind;
 use treefs_format::inodes::CONTENT_LEN;
 use treefs_format::sizes::{GREATEST_SIZE, LEAF_LEN};
-use treefs_session::{Begin, Change, Commit, Put, Target};
 
 /// What a line that brings files in keeps.
 pub struct Arriving<'a, H: Host> {

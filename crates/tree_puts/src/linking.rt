@@ -9,8 +9,7 @@ ghost use Rattle.tree_puts.specs.Linking.{GetsName, LinksAs, LinksOver, MovesToP
 use crate::arriving::{Arriving, Goods};
 use flush_store::FlushStore;
 use host_trees::Host;
-use tree_lines::{Fault, Opened, Place, Reason, at_bytes, there};
-use treefs_session::Change;
+use tree_lines::{Change, Fault, Opened, Place, Reason, at_bytes, there};
 
 /// So many names are tried for what has no name of its own yet.
 const MOST_NAMES: u32 = 10_000;

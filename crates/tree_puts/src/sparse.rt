@@ -10,9 +10,8 @@ use crate::arriving::{Arriving, Goods};
 use crate::pieces::{Incoming, read_piece};
 use flush_store::FlushStore;
 use host_trees::{Attributes, Host};
-use tree_lines::{Fault, Opened, system};
+use tree_lines::{Fault, Opened, Target, system};
 use treefs_format::inodes::CONTENT_LEN;
-use treefs_session::Target;
 
 /// Zeros are left out in parts of so many bytes.
 const PART: usize = 4_096;

@@ -18,9 +18,9 @@ use std::alloc::{AllocError, Global};
 use std::io;
 use system_files::WriteFault;
 use tree_lines::{
-    Fault, Opened, Place, Reason, Told, at, at_bytes, at_word, below, not_written, system, there,
+    Fault, Mkdir, Opened, Place, Reason, Told, at, at_bytes, at_word, below, not_written, system,
+    there,
 };
-use treefs_session::Mkdir;
 
 /// What is set of a folder of a volume once it is full.
 #[derive(Clone, Copy, Debug, PartialEq, Eq)]

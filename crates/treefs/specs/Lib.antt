@@ -12,5 +12,6 @@ pub mod Setting
 pub mod Sizing
 pub mod Trimming
 pub mod Unlinking
+pub mod Values
 pub mod Writing
 pub mod WritingTimes

@@ -16,5 +16,6 @@ mod writing_times;
 
 pub use attributes::Attributes;
 pub use block_types::BlockTypes;
+pub use treefs_byte_plans::{Attributes as Settings, Owner};
 pub use trimming::trim_first;
 pub use volume::Volume;

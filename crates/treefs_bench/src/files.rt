@@ -4,10 +4,9 @@ ghost use Rattle.std.specs.Prelude.{◌<◌};
 
 use flush_store::FlushStore;
 use std::alloc::Global;
-use treefs::Attributes;
 use treefs_format::Kind;
 use treefs_model::Fault;
-use treefs_session::{Create, Mkdir, Put, Session};
+use treefs_session::{Attributes, Create, Mkdir, Put, Session};
 
 /// What a new inode says beside.
 fn attributes() -> Attributes

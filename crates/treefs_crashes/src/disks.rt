@@ -7,9 +7,8 @@ use pseudo_random::Numbers;
 use std::alloc::{AllocError, Global};
 use std::thread::Threads;
 use templates::format_image;
-use treefs::BlockTypes;
 use treefs_format::types::tree_templates;
-use treefs_session::Session;
+use treefs_session::{BlockTypes, Session};
 use xn_kernel::Kernel;
 
 /// A volume on a disk in memory.

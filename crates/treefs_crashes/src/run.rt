@@ -7,11 +7,10 @@ use crate::model::{Inode, Model, NAMES, Past, bytes_of, name};
 use flush_store::FlushStore;
 use pseudo_random::Numbers;
 use std::alloc::{AllocError, Global};
-use treefs::Attributes;
 use treefs_check::check;
 use treefs_format::Kind;
 use treefs_model::Fault;
-use treefs_session::{Change, Create, Mkdir, Put, Session, Symlink, Target};
+use treefs_session::{Attributes, Change, Create, Mkdir, Put, Session, Symlink, Target};
 
 /// How many bytes a file has at most.
 const GREATEST: u16 = 12_000;

@@ -5,7 +5,7 @@
 --     Marks              inode 0 says that the volume is closed, or open, and that is written
 use Rattle.std.specs.Prelude.{◌≡◌, ◌⊎◌, ℕ, ◌==◌, Bool, Result, Ok, Err, MatchBool, MatchResult}
 use Rattle.flush_store.specs.Written.{AllWritten}
-use Rattle.xn_kernel.specs.FlushedStates.{StateRefuses, StateWaves}
+use Rattle.flush_store.specs.FlushedStates.{StateRefuses, StateWaves}
 use Rattle.xn_model.specs.Calls.{pending_of}
 use Rattle.xn_model.specs.Lives.{StoreState}
 use Rattle.xn_model.specs.Rules.{IsIdle}

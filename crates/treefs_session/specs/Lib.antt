@@ -1,3 +1,12 @@
+pub use Rattle.treefs.specs.Committing
+pub use Rattle.treefs.specs.Creating
+pub use Rattle.treefs.specs.Linking
+pub use Rattle.treefs.specs.Reads
+pub use Rattle.treefs.specs.Renaming
+pub use Rattle.treefs.specs.Setting
+pub use Rattle.treefs.specs.Sizing
+pub use Rattle.treefs.specs.Unlinking
+pub mod Values
 pub mod Changes
 pub mod Tries
 pub mod Freeing

@@ -1,5 +1,6 @@
 -- A session begins and ends.
 --     IsOpened, IsNotOpened      what is pending is written, and then the volume is opened, or not
+--     MendsVolume                the volume is opened and mended, of the crate below
 --     Closes, IsNotClosed        the volume is closed, or not
 use Rattle.std.specs.Prelude.{◌⊎◌, ℤ, Ok, Err}
 use Rattle.edit_list.specs.declared.fs.Fs.{Fs}
@@ -11,6 +12,7 @@ use Rattle.treefs.specs.declared.volume.Volume.{Volume}
 use Rattle.treefs_mounts.specs.Closing.{CloseDoes}
 use Rattle.treefs_mounts.specs.Flushing.{Flushes}
 use Rattle.treefs_mounts.specs.Opening.{OpenDoes}
+pub use Rattle.treefs_mounts.specs.Opening.{MendsVolume}
 use Rattle.treefs_session.specs.Tries.{Tries, most_tries}
 
 abbrev pub IsOpened : Types → StoreState → StoreState → Fs → BlockTypes → ℤ → Volume → Type 0

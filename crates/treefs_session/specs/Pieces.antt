@@ -9,7 +9,7 @@ use Rattle.treefs_model.specs.declared.fault.Fault.{Fault}
 use Rattle.treefs_model.specs.declared.fault.Fault.TheVariants.{Full}
 use Rattle.treefs.specs.Writing.{WriteDoes}
 use Rattle.treefs.specs.declared.volume.Volume.{Volume}
-use Rattle.treefs_puts.specs.Writing.{WriteBegunDoes}
+pub use Rattle.treefs_puts.specs.Writing.{WriteBegunDoes}
 use Rattle.treefs_session.specs.Freeing.{MakesFreely}
 use Rattle.treefs_session.specs.declared.calls.bytes.Target.{Target}
 use Rattle.treefs_session.specs.declared.calls.bytes.Target.TheVariants.{Begun, Numbered}

@@ -5,7 +5,7 @@
 --     Tries         a call is made until something is told
 use Rattle.std.specs.Prelude.{◌≡◌, ◌⊎◌, ℕ, zero, suc, ◌<◌, Bool, true, false, length, Option, None, Some, Result, Ok, Err, MatchResult}
 use Rattle.flush_store.specs.Written.{AllWritten}
-use Rattle.xn_kernel.specs.FlushedStates.{StateRefuses, StateWaves}
+use Rattle.flush_store.specs.FlushedStates.{StateRefuses, StateWaves}
 use Rattle.xn_model.specs.Lives.{StoreState}
 use Rattle.xn_model.specs.Rules.{IsIdle}
 use Rattle.xn_model.specs.Types.{Types}

@@ -15,3 +15,4 @@ pub use calls::changes::Change;
 pub use calls::new_inodes::{Begin, Commit, Create, Mkdir, Symlink};
 pub use put::Put;
 pub use session::{Session, Unclosed};
+pub use treefs::{Attributes, BlockTypes, Owner, Settings, Volume};

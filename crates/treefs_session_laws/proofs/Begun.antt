@@ -18,9 +18,8 @@ use Rattle.treefs_laws.specs.Open.{IsOpen}
 use Rattle.treefs_laws.specs.Orphans.{IsReaped}
 use Rattle.treefs_laws.specs.Unnamed.{IsUnnamed}
 use Rattle.treefs_laws.proofs.ForCallers.{reaped_same, reaped_then}
-use Rattle.treefs_puts.specs.Writing.{WriteBegunDoes}
 use Rattle.treefs_session.specs.Freeing.{MakesFreely}
-use Rattle.treefs_session.specs.Pieces.{WritesAll, WritesPiece, advanced, goes, stays, stops, whole}
+use Rattle.treefs_session.specs.Pieces.{WriteBegunDoes, WritesAll, WritesPiece, advanced, goes, stays, stops, whole}
 use Rattle.treefs_session.specs.declared.calls.bytes.Target.{Target}
 use Rattle.treefs_session.specs.declared.calls.bytes.Target.TheVariants.{Begun}
 use Rattle.treefs_session_laws.specs.Before.{IsAsBeforeButOrphans, IsUnheld}

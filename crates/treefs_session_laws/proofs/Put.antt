@@ -21,7 +21,7 @@ use Rattle.treefs_laws.specs.Open.{IsOpen}
 use Rattle.treefs_laws.specs.Orphans.{IsReaped}
 use Rattle.treefs_laws.specs.Unnamed.{IsUnnamed}
 use Rattle.treefs_laws.proofs.ForCallers.{reaped_then}
-use Rattle.treefs_puts.specs.Writing.{WriteBegunDoes}
+use Rattle.treefs_session.specs.Pieces.{WriteBegunDoes}
 use Rattle.treefs_session.specs.Puts.{Finishes, Names, PutDoes, WritesAndNames}
 use Rattle.treefs_session.specs.declared.put.Put.{Put}
 use Rattle.treefs_session_laws.specs.Before.{IsUnheld}

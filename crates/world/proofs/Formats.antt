@@ -1,5 +1,5 @@
 -- The image of a fresh disk is sound.
-use Rattle.std.proofs.Common.{◌≡◌, ◌≤◌, ℕ, List, length, sym, ◌∙◌, ap, arith, subst, inl, inr, Bool, true, false, ◌&&◌, Some, None, refl, Err}
+use Rattle.std.proofs.Common.{◌≡◌, ◌≤◌, ℕ, List, length, sym, ◌∙◌, ap, arith, subst, inl, inr, Bool, true, false, ◌&&◌, Some, None, refl}
 use Rattle.std.specs.Prelude.{All, nat_le, if◌then◌else◌}
 use Rattle.std.proofs.lemmas.Bool.{leb-true}
 use Rattle.std.proofs.lemmas.Option.{none-some}

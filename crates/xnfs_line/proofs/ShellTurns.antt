@@ -3,8 +3,8 @@ use Rattle.std.proofs.Common.{◌≡◌, ℕ, ℤ, Bool, Option, None, Some, Res
 use Rattle.std.specs.Prelude.{IfOk, IsErr, MatchOption, max}
 use Rattle.xn_model.specs.Lives.{StoreState}
 use Rattle.xn_model.specs.Types.{Types}
-use Rattle.treefs.specs.declared.volume.Volume.{Volume}
-use Rattle.treefs_session.specs.Opening.{with_clock}
+use Rattle.tree_lines.specs.Values.{Volume}
+use Rattle.tree_lines.specs.Opening.{with_clock}
 use Rattle.tree_changes.specs.Paths.{IsSame}
 use Rattle.xnfs_line.specs.Shells.{ShellLineDoes, ShellRuns, ended_status}
 use Rattle.xnfs_line.specs.Shells.ShellRuns.{goes_on}

@@ -1,15 +1,14 @@
 -- What the status of a line tells, and what its volume is closed behind.
 use Rattle.std.proofs.Common.{◌≡◌, ◌⊎◌, ℕ, ℤ, ◌<◌, List, [], ◌∷◌, length, Result, Ok, Err, inl, inr, refl, subst, sym, arith}
 use Rattle.std.specs.Prelude.{IfOk}
-use Rattle.edit_list.specs.declared.fs.Fs.{Fs}
 use Rattle.xn_model.specs.Lives.{StoreState}
 use Rattle.xn_model.specs.Types.{Types}
-use Rattle.treefs.specs.declared.block_types.BlockTypes.{BlockTypes}
-use Rattle.treefs.specs.declared.volume.Volume.{Volume}
-use Rattle.treefs_session.specs.Opening.{Closes}
+use Rattle.edit_list.specs.declared.fs.Fs.{Fs}
+use Rattle.xnfs_words.specs.declared.word.Word.{Word}
+use Rattle.tree_lines.specs.Values.{BlockTypes, Volume}
+use Rattle.tree_lines.specs.Opening.{Closes}
 use Rattle.tree_lines.specs.declared.told.Told.{Told}
 use Rattle.xnfs_line.specs.Lines.{AskedDoes, ChangesVolume, IsReady}
-use Rattle.xnfs_words.specs.declared.word.Word.{Word}
 
 -- before: what was to be told; told: what is told of it
 pub nothing_left : {A B : Type 0} (status : ℕ) (before : List A) (told seen : List B) → seen ≡ told → (0 < length before → 0 < length told) →

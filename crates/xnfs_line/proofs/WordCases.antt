@@ -3,7 +3,9 @@ use Rattle.std.proofs.Common.{◌≡◌, ◌⊎◌, ℕ, Bool, true, false, Bor,
 use Rattle.std.specs.Prelude.{◌||◌, MatchBool, MatchResult, map}
 use Rattle.xn_model.specs.Lives.{StoreState}
 use Rattle.xn_model.specs.Types.{Types}
-use Rattle.treefs.specs.declared.volume.Volume.{Volume}
+use Rattle.xnfs_words.specs.declared.word.Word.{Word}
+use Rattle.xnfs_words.specs.declared.word.Word.TheVariants.{Link}
+use Rattle.tree_lines.specs.Values.{Volume}
 use Rattle.tree_lines.specs.declared.fault.Fault.{Fault}
 use Rattle.tree_lines.specs.declared.told.Told.{Told}
 use Rattle.tree_changes.specs.Attributes.{IsSet, IsUnset}
@@ -19,8 +21,6 @@ use Rattle.tree_changes.specs.declared.naming.Linking.{Linking}
 use Rattle.tree_changes.specs.declared.setting.Setting.{Setting}
 use Rattle.tree_puts.specs.Lines.{line_of}
 use Rattle.tree_puts.specs.Sources.{PutsAll}
-use Rattle.xnfs_words.specs.declared.word.Word.{Word}
-use Rattle.xnfs_words.specs.declared.word.Word.TheVariants.{Link}
 use Rattle.xnfs_line.specs.Words.{CopiesSources, PutsPaths, RemovesPaths, SetsPaths, WordDoes, linking_of}
 
 pub link_does : (T : Types) (folder : ℕ) (word : Word) (target path : Bor (List ℕ)) (symbolic : Bool) (linking : Linking) →

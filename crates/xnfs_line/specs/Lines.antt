@@ -6,18 +6,16 @@
 --     IsReady          the volume is opened, and mended where that is asked
 --     ChangesVolume    then the line is done, and then the volume is closed
 use Rattle.std.specs.Prelude.{◌≡◌, ◌⊎◌, ℕ, ℤ, Bool, length, IfOk, IsErr, MatchOption, MatchResult, Option, None, Some, Result, Ok}
-use Rattle.edit_list.specs.declared.fs.Fs.{Fs}
 use Rattle.xn_model.specs.Lives.{StoreState}
 use Rattle.xn_model.specs.Types.{Types}
-use Rattle.treefs.specs.declared.block_types.BlockTypes.{BlockTypes}
-use Rattle.treefs.specs.declared.volume.Volume.{Volume}
-use Rattle.treefs_mounts.specs.Opening.{MendsVolume}
-use Rattle.treefs_session.specs.Opening.{Closes, IsOpened}
+use Rattle.edit_list.specs.declared.fs.Fs.{Fs}
+use Rattle.xnfs_words.specs.declared.word.Word.{Word}
+use Rattle.xnfs_words.specs.declared.word.Word.TheVariants.{Shell}
+use Rattle.tree_lines.specs.Values.{BlockTypes, Volume}
+use Rattle.tree_lines.specs.Opening.{Closes, IsOpened, MendsVolume}
 use Rattle.tree_lines.specs.declared.fault.Fault.{Fault}
 use Rattle.tree_lines.specs.declared.told.Told.{Told}
 use Rattle.tree_changes.specs.Paths.{IsSame}
-use Rattle.xnfs_words.specs.declared.word.Word.{Word}
-use Rattle.xnfs_words.specs.declared.word.Word.TheVariants.{Shell}
 use Rattle.xnfs_line.specs.Shells.{ShellRuns}
 use Rattle.xnfs_line.specs.Words.{RunsWord}
 

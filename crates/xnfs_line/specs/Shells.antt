@@ -14,9 +14,11 @@ use Rattle.std.specs.Prelude.{OnOk, Option, Result, Ok, MatchBool, MatchOption, 
 use Rattle.xn_model.specs.Lives.{StoreState}
 use Rattle.xn_model.specs.Types.{Types}
 use Rattle.flush_store.specs.Written.{AllWritten}
-use Rattle.treefs.specs.declared.volume.Volume.{Volume}
-use Rattle.treefs_session.specs.Freeing.{Syncs}
-use Rattle.treefs_session.specs.Opening.{with_clock}
+use Rattle.xnfs_words.specs.declared.word.Word.{Word}
+use Rattle.xnfs_words.specs.declared.word.Word.TheVariants.{ChangeFolder, Folder, Sync}
+use Rattle.tree_lines.specs.Values.{Volume}
+use Rattle.tree_lines.specs.Freeing.{Syncs}
+use Rattle.tree_lines.specs.Opening.{with_clock}
 use Rattle.tree_lines.specs.Answers.{Answers}
 use Rattle.tree_lines.specs.Places.{IsFolder}
 use Rattle.tree_lines.specs.Trees.{IsNodeIn}
@@ -24,8 +26,6 @@ use Rattle.tree_lines.specs.declared.fault.Fault.{Fault}
 use Rattle.tree_lines.specs.declared.node.Node.{Node}
 use Rattle.tree_lines.specs.declared.told.Told.{Told}
 use Rattle.tree_changes.specs.Paths.{IsSame}
-use Rattle.xnfs_words.specs.declared.word.Word.{Word}
-use Rattle.xnfs_words.specs.declared.word.Word.TheVariants.{ChangeFolder, Folder, Sync}
 use Rattle.xnfs_line.specs.Words.{RunsWord, only_looks}
 use Rattle.xnfs_line.specs.declared.shell.Ended.{Ended}
 use Rattle.xnfs_line.specs.declared.shell.Ended.TheVariants.{Broken, Cut, Done, Exit, Failed, TooLong, Unread}

@@ -16,7 +16,11 @@ use Rattle.std.specs.Prelude.{◌≡◌, ◌⊎◌, ℕ, ℤ, nat_lt, Bool, fals
 use Rattle.std.specs.Prelude.{option_copied}
 use Rattle.xn_model.specs.Lives.{StoreState}
 use Rattle.xn_model.specs.Types.{Types}
-use Rattle.treefs.specs.declared.volume.Volume.{Volume}
+use Rattle.xnfs_words.specs.declared.word.Word.{Word}
+use Rattle.xnfs_words.specs.declared.word.Word.TheVariants.{Cat, ChangeMode, ChangeOwner, Check, Copy, DiskUsage, Find}
+use Rattle.xnfs_words.specs.declared.word.Word.TheVariants.{FreeSpace, Get, Link, List as ListFolders}
+use Rattle.xnfs_words.specs.declared.word.Word.TheVariants.{MakeFolder, Move, Put, ReadLink, Remove, RemoveFolder, Stat, Touch, Tree, Truncate}
+use Rattle.tree_lines.specs.Values.{Volume}
 use Rattle.tree_lines.specs.declared.fault.Fault.{Fault}
 use Rattle.tree_lines.specs.declared.fault.Fault.TheVariants.{NoMemory}
 use Rattle.tree_lines.specs.declared.told.Told.{Told}
@@ -45,10 +49,6 @@ use Rattle.tree_changes.specs.declared.setting.Setting.{Setting}
 use Rattle.tree_changes.specs.declared.setting.Setting.TheVariants as setting
 use Rattle.tree_puts.specs.Lines.{line_of}
 use Rattle.tree_puts.specs.Sources.{PutsAll}
-use Rattle.xnfs_words.specs.declared.word.Word.{Word}
-use Rattle.xnfs_words.specs.declared.word.Word.TheVariants.{Cat, ChangeMode, ChangeOwner, Check, Copy, DiskUsage, Find}
-use Rattle.xnfs_words.specs.declared.word.Word.TheVariants.{FreeSpace, Get, Link, List as ListFolders}
-use Rattle.xnfs_words.specs.declared.word.Word.TheVariants.{MakeFolder, Move, Put, ReadLink, Remove, RemoveFolder, Stat, Touch, Tree, Truncate}
 
 abbrev pub IsUndone : Told → Told → StoreState → StoreState → Volume → Volume → Result (Unit {0}) Fault → Type 0
 IsUndone told told' old new volume volume' result = MatchResult result (λ done. ⊥) (λ fault. (told' ≡ told) × IsSame old new volume volume')

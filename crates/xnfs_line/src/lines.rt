@@ -2,7 +2,7 @@
 
 ghost use Rattle.std.specs.Prelude.{◌≡◌, ◌⊎◌, IfOk, length};
 ghost use Rattle.flush_store.specs.Written.{AllWritten};
-ghost use Rattle.treefs_session.specs.Opening.{Closes};
+ghost use Rattle.tree_lines.specs.Opening.{Closes};
 ghost use Rattle.xnfs_line.specs.Lines.{AskedDoes, ChangesVolume, IsReady, WordIsRun, shell_of};
 
 use crate::changing::Sources;
@@ -26,10 +26,8 @@ use std::thread::Threads;
 use std::time::Clock;
 use store_types::Refusal;
 use tree_disks::{VolumeKind, find_volume, format, open, open_for_tests};
-use tree_lines::{Fault, Opened, TOP, Told, reason_of};
+use tree_lines::{BlockTypes, Fault, Opened, Session, TOP, Told, reason_of};
 use tree_looks::{count_damage, look_to_repair};
-use treefs::BlockTypes;
-use treefs_session::Session;
 use xnfs_session::Stop;
 use xnfs_words::{Request, Word, prepared, read, unknown_command};
 

@@ -9,9 +9,8 @@ use flush_store::FlushStore;
 use host_trees::Host;
 use std::alloc::Global;
 use std::io::{Read, Write};
-use tree_lines::{Fault, Opened, Told};
+use tree_lines::{Fault, Opened, Session, Told};
 use tree_looks::check;
-use treefs_session::Session;
 use xnfs_words::Word;
 
 /// Does what a word asks for that only looks, `check` among them, where relative paths begin at a folder.

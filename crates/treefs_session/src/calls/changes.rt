@@ -6,8 +6,7 @@ ghost use Rattle.treefs_session.specs.Changes.{ChangeDoes};
 use crate::call::Call;
 use flush_store::FlushStore;
 use std::alloc::Global;
-use treefs::Volume;
-use treefs_byte_plans::Attributes as Settings;
+use treefs::{Settings, Volume};
 use treefs_model::Fault;
 
 /// A change that answers nothing. Each is the call of a volume that has its name.

@@ -1,6 +1,6 @@
 use Rattle.std.proofs.Common.{refl, true}
 use Rattle.treefs_format.specs.declared.kind.Kind.TheVariants.{SymbolicLink}
-use Rattle.treefs_session.specs.declared.put.Put.{Put}
+use Rattle.tree_lines.specs.Values.{Put}
 use Rattle.tree_changes.proofs.BegunCopies.{link_put, target_is}
 use Rattle.tree_changes.proofs.copies.copy_link.Goals as goal
 

@@ -1,6 +1,6 @@
 use Rattle.std.proofs.Common.{false, inr, refl}
 use Rattle.treefs_format.specs.declared.kind.Kind.TheVariants.{SymbolicLink}
-use Rattle.treefs_session.specs.declared.put.Put.{Put}
+use Rattle.tree_lines.specs.Values.{Put}
 use Rattle.tree_changes.proofs.Along.{failed}
 use Rattle.tree_changes.proofs.naming.link_symbolic.Goals as goal
 

@@ -1,6 +1,6 @@
 use Rattle.std.proofs.Common.{◌≡◌, rules, subst}
 use Rattle.std.specs.Prelude.{IfOk}
-use Rattle.treefs_session.specs.Opening.{Closes}
+use Rattle.tree_lines.specs.Opening.{Closes}
 use Rattle.xnfs_line.proofs.Statuses.{closed_behind}
 use Rattle.xnfs_line.proofs.lines.change_trees.Goals as goal
 

@@ -1,7 +1,6 @@
 use Rattle.std.proofs.Common.{◌≡◌, rules, FitsSigned, w64, Ok, inl, inr, refl, subst, sym}
 use Rattle.std.proofs.lemmas.Int.{to_z-of_z}
-use Rattle.treefs_mounts.specs.Opening.{MendsVolume}
-use Rattle.treefs_session.specs.Opening.{IsOpened}
+use Rattle.tree_lines.specs.Opening.{IsOpened, MendsVolume}
 use Rattle.tree_changes.specs.Paths.{IsSame}
 use Rattle.xnfs_line.proofs.lines.open_volume.Goals.{then-is_to_mend+in_ok-mend, else-is_to_mend}
 use Rattle.xnfs_line.proofs.lines.open_volume.Goals as goal

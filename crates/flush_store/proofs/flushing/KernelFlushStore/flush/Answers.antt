@@ -1,5 +1,5 @@
 use Rattle.std.proofs.Common.{◌≡◌}
-use Rattle.xn_state.specs.States.{own_types}
+use Rattle.xn_kernel.specs.States.{own_types}
 use Rattle.xn_model.specs.Worlds.{all_pending}
 use Rattle.xn_kernel.proofs.ForCallers.{nothing_left, refused_goes, refused_state, waves_go, waves_of_state}
 use Rattle.flush_store.specs.Written.{AllWritten}

@@ -1,6 +1,6 @@
 use Rattle.std.proofs.Common.{◌≡◌, [], ◌∷◌}
 use Rattle.xn_model.specs.Lives.{StoreState}
-use Rattle.treefs.specs.declared.volume.Volume.{Volume}
+use Rattle.treefs_session.specs.Values.{Volume}
 use Rattle.treefs_session.specs.Puts.{PutDoes}
 use Rattle.tree_lines.proofs.Answered.{answers_at}
 use Rattle.tree_lines.proofs.opened.Opened.put.Goals as goal

@@ -1,6 +1,6 @@
 use Rattle.std.proofs.Common.{◌≡◌, [], ◌∷◌, Err}
 use Rattle.xn_model.specs.Lives.{StoreState}
-use Rattle.treefs.specs.declared.volume.Volume.{Volume}
+use Rattle.treefs_session.specs.Values.{Volume}
 use Rattle.treefs_session.specs.Freeing.{Syncs}
 use Rattle.tree_lines.proofs.Answered.{kept}
 use Rattle.tree_lines.proofs.opened.Opened.sync.Goals as goal

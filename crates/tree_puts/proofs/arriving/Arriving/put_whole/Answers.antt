@@ -1,5 +1,5 @@
 use Rattle.std.proofs.Common.{refl, true}
-use Rattle.treefs_session.specs.declared.put.Put.{Put}
+use Rattle.tree_lines.specs.Values.{Put}
 use Rattle.tree_puts.proofs.Performed.{by_plan, put_done}
 use Rattle.tree_puts.proofs.arriving.Arriving.put_whole.Goals as goal
 

@@ -1,6 +1,6 @@
 use Rattle.std.proofs.Common.{ℤ, FitsSigned, Some, of_z, rules, subst, to_z, w64}
 use Rattle.std.proofs.lemmas.Int.{to_z-of_z}
-use Rattle.treefs_byte_plans.specs.declared.attributes.Attributes.{Attributes as Settings}
+use Rattle.tree_lines.specs.Values.{Settings}
 use Rattle.tree_puts.specs.Actions.{Calls, Performs}
 use Rattle.tree_puts.specs.Actions.Action.{sets}
 use Rattle.tree_puts.specs.Arriving.{all_of}
