@@ -1,5 +1,6 @@
 // Plays transcripts of the calls of a file system of trees on a disk in memory: each call's edits of the store, and what it answers, are compared with what is
-// written. The transcripts are those that its arguments name. Prints how many calls and lines were as written, or the first that was not.
+// written. The transcripts are those that its arguments name. Prints how many calls and lines were as written, or the first that was not. Behind `--tell` stand
+// the names of files that have calls alone, of which it prints the transcripts.
 // May touch: memory, threads, files, streams.
 #![tactic(auto)]
 
@@ -15,7 +16,7 @@ mod words;
 use std::process::ExitCode;
 use std::thread::Threads;
 use std::{env, fs, io};
-use transcript::{Played, play};
+use transcript::{Played, play, tell};
 
 /// Plays the transcript of a name, and counts what is as written. `false` where something is not, which is printed. Threads are started by the second handle
 /// alone.
@@ -39,15 +40,43 @@ fn play_file(
     }
 }
 
-fn main(rt: HostRuntime) -> io::Result<ExitCode> {
-    let names: Vec<String> = env::args(&rt)?.skip(1).collect(rt.alloc())?;
+/// Plays transcripts, and prints what came of it.
+fn play_files(
+    rt: &HostRuntime,
+    threads: &(impl Threads + Sync),
+    names: &[String],
+) -> io::Result<ExitCode> {
     let mut sum = Played { calls: 0, lines: 0 };
-    for name in names.iter() {
-        if !play_file(&rt, &rt, name.as_str(), &mut sum)? {
+    for name in names {
+        if !play_file(rt, threads, name.as_str(), &mut sum)? {
             return Ok(ExitCode::from(1));
         }
     }
     let (count, calls, lines) = (names.len(), sum.calls, sum.lines);
     println!(rt; "{count} transcripts, {calls} calls, {lines} lines, all as written")?;
     Ok(ExitCode::from(0))
+}
+
+/// Prints the transcripts of calls, up to a line that is no call.
+fn tell_files(
+    rt: &HostRuntime,
+    threads: &(impl Threads + Sync),
+    names: &[String],
+) -> io::Result<ExitCode> {
+    for name in names {
+        let calls = fs::read_to_string(rt, name.as_str())?;
+        if let Some(line) = tell(rt, threads, rt.alloc(), calls.as_str())? {
+            println!(rt; "{name}: line {line} is no call")?;
+            return Ok(ExitCode::from(1));
+        }
+    }
+    Ok(ExitCode::from(0))
+}
+
+fn main(rt: HostRuntime) -> io::Result<ExitCode> {
+    let words: Vec<String> = env::args(&rt)?.skip(1).collect(rt.alloc())?;
+    match words.as_slice() {
+        [first, names @ ..] if first.as_str() == "--tell" => tell_files(&rt, &rt, names),
+        names => play_files(&rt, &rt, names),
+    }
 }

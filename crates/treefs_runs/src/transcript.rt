@@ -2,6 +2,7 @@
 
 use crate::calls::Player;
 use std::alloc::{AllocError, Global};
+use std::io;
 use std::thread::Threads;
 use thiserror::Error;
 
@@ -89,4 +90,21 @@ pub fn play(
         }
     }
     Ok(played)
+}
+
+/// Makes the calls that lines ask for, and prints each with what it prints. Answers the first line that is no call, counted from 1.
+pub fn tell(
+    rt: &impl Print,
+    threads: &(impl Threads + Sync),
+    alloc: Global,
+    calls: &str,
+) -> io::Result<Option<usize>> {
+    let mut player = Player::new(alloc);
+    for (at, line) in calls.lines().enumerate() {
+        match player.call(threads, line)? {
+            Some(printed) => print!(rt; "{line}\n{printed}")?,
+            None => return Ok(Some(at.saturating_add(1))),
+        }
+    }
+    Ok(None)
 }
