@@ -10,10 +10,11 @@ use Rattle.xn_model.specs.Lives.{StoreState, life_at}
 use Rattle.xn_model.specs.Root.{word_at}
 use Rattle.xn_model.proofs.ForCallers.{set_other}
 use Rattle.ffs_model.proofs.ForCallers.{Started, started}
+use Rattle.treefs_format.specs.Paths.{steps}
 use Rattle.treefs_format.specs.Templates.{IsTree}
 use Rattle.treefs_lookup.specs.Readable.{readable}
 use Rattle.treefs_model.specs.Edited.{type_in}
-use Rattle.treefs_model.specs.Reading.{block_at, files_of, pointed}
+use Rattle.treefs_model.specs.Reading.{block_at, files_of, leaf_block, pointed}
 use Rattle.treefs_model.specs.Trees.{has_pointer}
 use Rattle.treefs_model.specs.declared.fault.Fault.{Fault}
 use Rattle.treefs_model.proofs.Edited.{gives_ok}
@@ -22,8 +23,9 @@ use Rattle.treefs_edits.specs.declared.start.Start.{Start}
 use Rattle.treefs_values.specs.Kinds.{kinds}
 use Rattle.treefs_values.specs.Ways.{IsWay}
 use Rattle.treefs_values.proofs.ForCallers.{AreBegun, AreNew, AreOf, IsAt, IsFineStart, IsNew, New, begun_so, kinds_are, may_read, readable_is}
-use Rattle.treefs_laws.proofs.AsideTree.{IsAside, beside_aside, beside_way}
+use Rattle.treefs_laws.proofs.AsideTree.{IsAside, beside_aside, beside_leaf, beside_way}
 use Rattle.treefs_laws.proofs.ForgottenBlocks.{forget_bare, forget_files, forget_here, forget_kept, forget_unled}
+use Rattle.treefs_laws.proofs.WaysApart.{steps_way}
 
 module _ (T : Types) (fs node inode top c : ℕ) (few : fs < 32) (tree : IsTree T node inode) where
   -- in a state of the store
@@ -40,10 +42,12 @@ module _ (T : Types) (fs node inode top c : ℕ) (few : fs < 32) (tree : IsTree 
   pub stays_then : (old middle new : StoreState) → Stays old middle → Stays middle new → Stays old new
   stays_then old middle new first second = (second.0, second.1 ∙ first.1)
 
-  -- its ways lead where they led, and its block has the bytes that it had
+  -- its ways lead where they led, and its block and its leaves have the bytes that they had
   pub record KeepsTree (old new : StoreState) : Type 0 where
     pub ways : (k : ℕ) (os : List ℕ) → IsWay os k → block_at (readable new fs) c os ≡ block_at (readable old fs) c os
     pub own : readable new fs c ≡ readable old fs c
+    pub leaves : (i : ℕ) → leaf_block (readable old fs) c i ≢ 0 →
+        readable new fs (leaf_block (readable old fs) c i) ≡ readable old fs (leaf_block (readable old fs) c i)
 
   abbrev Fine : Start → Type 0
   Fine = IsFineStart T fs node inode top few tree
@@ -95,6 +99,8 @@ module _ (T : Types) (fs node inode top c : ℕ) (few : fs < 32) (tree : IsTree 
       record {
         ways = beside_way node inode top c (kinds old fs) (kinds new fs) (readable old fs) (readable new fs) at.aside b begun_other others led all.at.volume bare;
         own = (others c (λ same. begun_other (sym same))).1;
+        leaves = beside_leaf node inode top c (kinds old fs) (kinds new fs) (readable old fs) (readable new fs) at.aside b begun_other others led all.at.volume
+            bare;
       },
     )
       where
@@ -161,7 +167,7 @@ module _ (T : Types) (fs node inode top c : ℕ) (few : fs < 32) (tree : IsTree 
   all_begun [] begun blocks old new fine at others begins = (
     subst (Stays old) (sym begins.1) (at, refl),
     subst (All Other) (same_blocks begins.0) others,
-    subst (KeepsTree old) (sym begins.1) (record { ways = λ k os way. refl; own = refl }),
+    subst (KeepsTree old) (sym begins.1) (record { ways = λ k os way. refl; own = refl; leaves = λ i some. refl }),
   )
     where
       same_blocks : ◌≡◌ {A = Result (List ℕ) Fault} (Ok blocks) (Ok begun) → begun ≡ blocks
@@ -174,7 +180,14 @@ module _ (T : Types) (fs node inode top c : ℕ) (few : fs < 32) (tree : IsTree 
       (All-cons Other made.0 [] (begun_other old middle at start (All-head Fine start starts fine) made one) (All-nil Other))) rest in (
         stays_then old middle new first.0 later.0,
         later.1,
-        record { ways = λ k os way. later.2.ways k os way ∙ first.1.ways k os way; own = later.2.own ∙ first.1.own },
+        record {
+          ways = λ k os way. later.2.ways k os way ∙ first.1.ways k os way;
+          own = later.2.own ∙ first.1.own;
+          leaves = λ i some.
+              let same : leaf_block (readable middle fs) c i ≡ leaf_block (readable old fs) c i = first.1.ways 0 (steps i) (steps_way i) in
+              ap (readable new fs) (sym same)
+              ∙ (later.2.leaves i (λ z. some (sym same ∙ z)) ∙ (ap (readable middle fs) same ∙ first.1.leaves i some));
+        },
       )
 
   pub none_begun : (starts : List Start) (begun : List ℕ) (old new : StoreState) (fault : Fault) → All Fine starts → IsAsideAt old → All Other begun →

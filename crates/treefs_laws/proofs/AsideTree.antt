@@ -344,5 +344,8 @@ module _ (node inode top c : ℕ) where
     pub beside_way : (k : ℕ) (os : List ℕ) → IsWay os k → block_at new c os ≡ block_at old c os
     beside_way = same_beside
 
+    pub beside_leaf : (i : ℕ) → leaf_block old c i ≢ 0 → new (leaf_block old c i) ≡ old (leaf_block old c i)
+    beside_leaf i there = (kept (leaf_block old c i) (way_beside 0 (steps i) (steps_way i) there)).1
+
     pub beside_own : (type' c ≡ type c) × (new c ≡ old c)
     beside_own = kept c no_own

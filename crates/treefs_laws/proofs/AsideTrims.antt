@@ -53,7 +53,7 @@ led_on : (q : List ℕ) (l o p : ℕ) → IsWay q (suc l) → p < 127 → o ≡ 
 led_on [] l o p way lt is = absurd way
 led_on (r ∷ rs) l o p way lt is = (p, lt, is, way)
 
-first_of_root : (content : ℕ → List ℕ) (c keep o : ℕ) → IsRootPlace content c keep o → (l : ℕ) × IsFirst o l
+pub first_of_root : (content : ℕ → List ℕ) (c keep o : ℕ) → IsRootPlace content c keep o → (l : ℕ) × IsFirst o l
 first_of_root content c keep o (inl (h, low, high, past, is)) = (h, inr (low, high, is))
 first_of_root content c keep o (inr (i, low, high, is)) = (0, inl (i, high, is, refl))
 
@@ -142,7 +142,7 @@ module _ (T : Types) (tree : Tree) (c : ℕ) (few : tree.fs.number < 32) (is_tre
         by (inr (no_root, unled)) = unled
 
     module _ (keep : ℕ) where
-      cut_stays : (cut : Cut) → IsNextCut content c keep cut → Ran T fs (planned_drop content c cut) old new (Ok tt) → Stay old new
+      pub cut_stays : (cut : Cut) → IsNextCut content c keep cut → Ran T fs (planned_drop content c cut) old new (Ok tt) → Stay old new
       cut_stays cut is ran = cleared_stays is.above (inr (is.level, is.way)) there places blocks behind over led act refl (sym is.leads) refl writes ran of
         where
           holder : ℕ
@@ -177,7 +177,7 @@ module _ (T : Types) (tree : Tree) (c : ℕ) (few : tree.fs.number < 32) (is_tre
               let p = covered_at cut.place is.place o cover in
               inl (at.aside.no_root, is.level, o ∷ is.above, led_on is.above is.level o p.0 is.way p.2 p.3, sym led_is)
 
-      roots_ran : Ran T fs (pointers_act c (tree_pointers content c keep) (leaf_pointers content c keep) ∷ []) old new (Ok tt) → Stay old new
+      pub roots_ran : Ran T fs (pointers_act c (tree_pointers content c keep) (leaf_pointers content c keep) ∷ []) old new (Ok tt) → Stay old new
       roots_ran ran = cleared_stays [] (inl refl) at.aside.there places blocks None over (all_led_to content c keep) act refl refl refl writes ran of
         where
           places : List (ℕ × ℕ)
@@ -253,7 +253,7 @@ module _ (T : Types) (tree : Tree) (c : ℕ) (few : tree.fs.number < 32) (is_tre
     abbrev leaf_plan : StoreState → BlankPlan
     leaf_plan old = record { block = leaf_block (readable old fs) c (end / 512); offset = end % 512; behind = Some c }
 
-    own_blank : (old new : StoreState) → At old → end < 384 → Ran T fs (blank_act own_plan ∷ []) old new (Ok tt) → Stay old new
+    pub own_blank : (old new : StoreState) → At old → end < 384 → Ran T fs (blank_act own_plan ∷ []) old new (Ok tt) → Stay old new
     own_blank old new at low ran =
         elim (ran_first T fs (blank_act own_plan) [] old new (Ok tt) ran) [
           | inl same ↦ as_it_was old new at same
@@ -261,7 +261,7 @@ module _ (T : Types) (tree : Tree) (c : ℕ) (few : tree.fs.number < 32) (is_tre
               subst (Stay old) (sym rest.1) (own_blanked T fs node inode top c few is_tree old at end low middle entry made).0
         ]
 
-    leaf_blank : (old new : StoreState) → At old → end < greatest_size → Ran T fs (blank_act (leaf_plan old) ∷ []) old new (Ok tt) → Stay old new
+    pub leaf_blank : (old new : StoreState) → At old → end < greatest_size → Ran T fs (blank_act (leaf_plan old) ∷ []) old new (Ok tt) → Stay old new
     leaf_blank old new at low ran =
         elim (ran_first T fs (blank_act (leaf_plan old)) [] old new (Ok tt) ran) [
           | inl same ↦ as_it_was old new at same

@@ -1,6 +1,6 @@
 -- An inode is begun: the files are as before.
 use Rattle.std.proofs.Common.{◌≡◌, ◌≢◌, ℕ, ◌<◌, ◌≤◌, Bool, true, false, List, [], ◌∷◌, length, Result, Ok, Err, refl, sym, ◌∙◌, ap, inr, arith, subst}
-use Rattle.std.specs.Prelude.{All, MatchBool, None}
+use Rattle.std.specs.Prelude.{All, MatchBool, None, Some}
 use Rattle.std.proofs.lemmas.List.Elements.{All-cons, All-nil, All-weaker}
 use Rattle.xn_model.specs.Types.{Types}
 use Rattle.xn_model.specs.Lives.{StoreState}
@@ -10,7 +10,8 @@ use Rattle.treefs_format.specs.declared.fields.Fields.{Fields}
 use Rattle.treefs_format.specs.declared.kind.Kind.{Kind}
 use Rattle.treefs_format.specs.declared.kind.Kind.TheVariants as kind
 use Rattle.treefs_format.proofs.ForCallers.{mode_kind, mode_permissions, mode_short}
-use Rattle.treefs_model.specs.Reading.{inode_with}
+use Rattle.treefs_model.specs.Files.{bytes_in}
+use Rattle.treefs_model.specs.Reading.{inode_with, key_in}
 use Rattle.treefs_lookup.specs.Readable.{readable}
 use Rattle.treefs_model.specs.declared.fault.Fault.{Fault}
 use Rattle.treefs_model.specs.declared.fault.Fault.TheVariants.{Full}
@@ -23,7 +24,7 @@ use Rattle.treefs.specs.declared.attributes.Attributes.{Attributes}
 use Rattle.treefs.specs.declared.volume.Volume.{Volume}
 use Rattle.treefs_values.specs.Attached.{new_content}
 use Rattle.treefs_values.specs.Kinds.{kinds}
-use Rattle.treefs_values.proofs.ForCallers.{AreBegun, AreNew, AreOf, IsAt, IsFineStart, New, begun_so, blocks_in}
+use Rattle.treefs_values.proofs.ForCallers.{AreBegun, AreNew, AreOf, IsAt, IsFineStart, New, begun_so, blocks_in, new_free, new_value}
 use Rattle.treefs_laws.specs.Kept.{IsKept, files_in}
 use Rattle.treefs_laws.specs.Begun.{IsBegun}
 use Rattle.treefs_laws.specs.Making.{FitsAttributes, new_inode}
@@ -93,27 +94,33 @@ module _ (T : Types) (state state' : StoreState) (volume : Volume) (is_open : Is
   is_begun block (y ∷ []) same of news no_directory =
       let is : y.block ≡ block = sym (ap first_or same) in
       let new = news.0 in
+      let free = new_free node inode (kinds state' fs) (readable state' fs) (key_in (readable state' fs) top) y.block fields head (new.bytes ∙ of.1) in_range
+      short refl k (mode_kind k attributes.permissions fit.permissions) (λ is. absurd (no_directory is)) new.there (new.typed ∙ of.0) in
       subst (λ b. IsBegun state' volume b (new_inode volume.memory.clock attributes (new_content k 0 head))) is (record {
-        fields = fields;
-        head = head;
-        of_kind = k;
-        bytes = new.bytes ∙ of.1;
-        in_range = in_range;
-        short = short;
-        size = refl;
-        kind_is = mode_kind k attributes.permissions fit.permissions;
-        no_directory = no_directory;
-        value = sym value_is;
-        typed = new.typed ∙ of.0;
-        there = new.there;
+        unnamed = record {
+          there = new.there;
+          typed = new.typed ∙ of.0;
+          nodes = free.tree.nodes;
+          leaves = free.tree.leaves;
+          no_root = new.no_root;
+          unled = new.unled;
+        };
         within = new.within;
-        no_root = new.no_root;
-        unled = new.unled;
+        says = new_value node inode (kinds state' fs) (readable state' fs) (key_in (readable state' fs) top) y.block fields head (new.bytes ∙ of.1) in_range short
+            refl k (mode_kind k attributes.permissions fit.permissions) (λ is. absurd (no_directory is)) ∙ ap Some value_is;
+        bytes = head;
+        bytes_are = by_kind k no_directory;
+        few = omega arith;
       })
     where
       first_or : List ℕ → ℕ
       first_or [] = 0
       first_or (b ∷ bs) = b
+
+      by_kind : (k : Kind) → k ≢ kind.Directory → bytes_in (new_content k 0 head) ≡ Ok head
+      by_kind kind.Directory other = absurd (other refl)
+      by_kind kind.File other = refl
+      by_kind kind.SymbolicLink other = refl
 
   by_begun : (block : ℕ) → AreBegun T fs node inode top is_open.few is_open.tree (start ∷ []) [] (block ∷ []) state state' → Said block
   by_begun block b =

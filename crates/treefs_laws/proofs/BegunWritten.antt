@@ -90,17 +90,17 @@ module _ (content : ℕ → List ℕ) (c : ℕ) where
       lower false is y e = (is, same_done y x e)
 
   -- what is trimmed before is all past its size
-  pub kept_is : (at : ℕ) (asked : Found → Bool) (k : Kept) → IsTrimSought content (written_begun content c at) asked (Some k) → (size : ℕ) × (k ≡ kept_up_to c size)
+  pub kept_is : (at : ℕ) (asked : Found → Bool) (k : Kept) → IsTrimSought content (written_begun content c at) asked (Some k) → k ≡ kept_up_to c (fields_of (content c)).size
   kept_is at asked k sought = by (written_begun content c at) refl sought
     where
       of_file : (file : Found) → IsBegunFile at file → (t : Bool) → MatchBool t (IsUntrimmed content file (Some k)) (◌≡◌ {A = Option Kept} (Some k) None) →
-          (size : ℕ) × (k ≡ kept_up_to c size)
-      of_file file is true untrimmed = (file.fields.size, untrimmed.1 ∙ ap (λ b. kept_up_to b file.fields.size) is.block)
+          k ≡ kept_up_to c (fields_of (content c)).size
+      of_file file is true untrimmed = untrimmed.1 ∙ (λ j. kept_up_to (is.block j) (is.fields j).size)
       of_file file is false none = absurd (cc none)
 
       by : (r : Result Found Fault) → written_begun content c at ≡ r →
           MatchResult r (λ file. MatchBool (asked file) (IsUntrimmed content file (Some k)) (◌≡◌ {A = Option Kept} (Some k) None))
-          (λ fault. ◌≡◌ {A = Option Kept} (Some k) None) → (size : ℕ) × (k ≡ kept_up_to c size)
+          (λ fault. ◌≡◌ {A = Option Kept} (Some k) None) → k ≡ kept_up_to c (fields_of (content c)).size
       by (Err fault) e none = absurd (cc none)
       by (Ok file) e is = of_file file (begun_found at file e) (asked file) is
 
@@ -150,8 +150,8 @@ module _ (T : Types) (old : StoreState) (volume : Volume) (is_open : IsOpen T ol
   trims None asked sought new result does = subst (Stay c old) (sym does.1) (here, refl)
   trims (Some k) asked sought new result does =
       let is = kept_is (readable old fs) c at asked k sought in
-      trim_aside T volume.tree c is_open.few is_open.tree is.0 volume.memory old new result here
-      (subst (λ k. TrimDoes T fs volume.memory k old new result) is.1 does)
+      trim_aside T volume.tree c is_open.few is_open.tree (fields_of (readable old fs c)).size volume.memory old new result here
+      (subst (λ k. TrimDoes T fs volume.memory k old new result) is does)
 
   -- A piece
 

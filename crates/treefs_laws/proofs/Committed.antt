@@ -1,18 +1,13 @@
 -- An inode that was begun gets its first name.
-use Rattle.std.proofs.Common.{◌≡◌, ℕ, ◌<◌, Bool, false, List, [], Result, Ok, Err, refl, sym, ◌∙◌, ap, inl, inr, subst}
+use Rattle.std.proofs.Common.{◌≡◌, ◌≢◌, ℕ, ◌<◌, Bool, false, List, [], Result, Ok, Err, sym, ◌∙◌, ap, inl, inr, subst}
 use Rattle.std.specs.Prelude.{All}
 use Rattle.xn_model.specs.Types.{Types}
 use Rattle.xn_model.specs.Lives.{StoreState}
-use Rattle.treefs_format.specs.Inodes.{inode_bytes}
-use Rattle.treefs_format.specs.declared.fields.Fields.{Fields}
-use Rattle.treefs_format.specs.declared.kind.Kind.{Kind}
-use Rattle.treefs_format.specs.declared.kind.Kind.TheVariants as kind
-use Rattle.treefs_format.proofs.ForCallers.{inode_pointers}
 use Rattle.treefs_model.specs.Acts.{Ran}
 use Rattle.treefs_model.specs.Files.{Inode}
 use Rattle.treefs_model.specs.Reading.{key_in}
 use Rattle.treefs_lookup.specs.Readable.{readable}
-use Rattle.treefs_edits.specs.Plans.{Does}
+use Rattle.treefs_edits.specs.Plans.{Begins, Does}
 use Rattle.treefs_edits.specs.declared.start.Start.{Start}
 use Rattle.treefs_name_plans.specs.CommitPlans.{IsCommitPlanned, commit_acts, commit_plan}
 use Rattle.treefs_name_plans.specs.declared.commit_plan.CommitPlan.{CommitPlan}
@@ -20,12 +15,12 @@ use Rattle.store_types.specs.declared.refusal.Refusal.{Refusal}
 use Rattle.xn_model.specs.Calls.{read_of}
 use Rattle.treefs.specs.Committing.{CommitDoes, committed_memory, if_readable}
 use Rattle.treefs.specs.declared.volume.Volume.{Volume}
-use Rattle.treefs_values.specs.Kinds.{kinds}
-use Rattle.treefs_values.proofs.ForCallers.{AreBegun, IsAt, IsNew, New, bare_inode, begun_so, inode_offset, low_offset}
+use Rattle.treefs_values.proofs.ForCallers.{IsAt, IsFineStart, begun_so}
 use Rattle.treefs_laws.specs.Kept.{IsKept}
 use Rattle.treefs_laws.specs.Making.{MakesInode}
 use Rattle.treefs_laws.specs.Begun.{IsBegun}
 use Rattle.treefs_laws.specs.Open.{IsOpen}
+use Rattle.treefs_laws.proofs.AsideTold.{Tells, aside_tells, aside_told, begun_others, begun_tells, others_are}
 use Rattle.treefs_laws.proofs.FirstName.{IsDone, fine, first_begun, said, starts}
 use Rattle.treefs_laws.proofs.NewPlanned.{IsFirstPlan, commit_of, first_planned}
 use Rattle.treefs_laws.proofs.Planned.{same_done, then_ok}
@@ -50,42 +45,11 @@ module _ (T : Types) (state state' : StoreState) (volume : Volume) (d : ℕ) (na
   abbrev key : List ℕ
   key = key_in content top
 
-  abbrev fields : Fields
-  fields = y_is.fields
-
-  abbrev head : List ℕ
-  head = y_is.head
-
-  abbrev k : Kind
-  k = y_is.of_kind
-
-  pub empty : k ≡ kind.Directory → head ≡ []
-  empty is = absurd (y_is.no_directory is)
-
-  -- the block of the inode
-  abbrev pub y : New
-  y = record { block = block; ty = inode; bytes = inode_bytes fields head }
-
   kept : IsKept T state volume
   kept = is_open.kept
 
   pub here : IsAt T fs node inode top state
   here = record { store = kept.store; root = is_open.root; volume = kept.bytes }
-
-  pub is_new : IsNew node inode (kinds state fs) (readable state fs) top y
-  is_new = record {
-    there = y_is.there;
-    within = y_is.within;
-    no_root = y_is.no_root;
-    unled = y_is.unled;
-    typed = y_is.typed;
-    some_type = kept.bytes.some_types.1;
-    bytes = y_is.bytes;
-    bare = λ o has.
-        let low = low_offset node inode inode o has in
-        let at = inode_offset node inode inode o kept.bytes.types.0 refl has in
-        bare_inode (inode_bytes fields head) (inode_pointers fields head) o at.0 at.1 low.2;
-  }
 
   module _ (plan : CommitPlan) (p : IsFirstPlan state volume.tree volume.memory d name [] plan) where
     abbrev commit : CommitPlan
@@ -97,20 +61,29 @@ module _ (T : Types) (state state' : StoreState) (volume : Volume) (d : ℕ) (na
     abbrev Done : Type 0
     Done = IsDone T state state' volume d name is_open wide value [] p.n p.directory p.free p.next p.addition p.addition_found state'
 
-    module _ (begun : List ℕ) (b0 : StoreState) (b : AreBegun T fs node inode top is_open.few is_open.tree all [] begun state b0)
-        (ran : Ran T fs (commit_acts commit name block begun) b0 state' (Ok tt)) where
-      stored : Done
-      stored =
-          let own = b.keeps y is_new in
-          first_begun T state state' volume d name is_open wide value [] p.n p.directory p.free p.next p.addition p.addition_found fields head
-          y_is.in_range y_is.short y_is.size k y_is.kind_is empty (sym y_is.value) all begun b0 b y b.made refl refl b.of (own.0, own.1, b.news)
-          (subst (λ bs. Ran T fs (commit_acts commit name block bs) b0 state' (Ok tt)) b.blocks_are ran)
+    abbrev Fine : Start → Type 0
+    Fine = IsFineStart T fs node inode top is_open.few is_open.tree
+
+    all_fine : All Fine all
+    all_fine = fine T state state' volume d name is_open wide value [] p.n p.directory p.free p.next p.addition p.addition_found
+
+    stored : (begun : List ℕ) (b0 : StoreState) → Begins T fs all [] state b0 (Ok begun) →
+        Ran T fs (commit_acts commit name block begun) b0 state' (Ok tt) → Done
+    stored begun b0 begins ran =
+        let b = begun_so T fs node inode top is_open.few is_open.tree all [] begun state b0 all_fine here begins in
+        first_begun T state state' volume d name is_open wide value [] p.n p.directory p.free p.next p.addition p.addition_found all begun b0 b block
+        (Tells T state volume is_open block value y_is)
+        (λ xs s s' since news apart tells. aside_tells T state volume is_open block value y_is xs s s' since news apart tells)
+        (λ s there tells h read. aside_told T state volume is_open block value y_is s tells h read) b.made b.of b.news
+        (others_are block b.made (subst (All (λ x. x ≢ block)) b.blocks_are
+        (begun_others T state volume is_open block value y_is all all_fine begun b0 begins)))
+        (begun_tells T state volume is_open block value y_is all all_fine begun b0 begins)
+        (subst (λ bs. Ran T fs (commit_acts commit name block bs) b0 state' (Ok tt)) b.blocks_are ran)
 
     carried : Does T fs (commit_plan name block commit) state state' (Ok tt) → Done
     carried does = elim does [
       | inl none ↦ absurd none
-      | inr r ↦ stored r.0 r.1 (begun_so T fs node inode top is_open.few is_open.tree all [] r.0 state r.1
-          (fine T state state' volume d name is_open wide value [] p.n p.directory p.free p.next p.addition p.addition_found) here r.2) r.3
+      | inr r ↦ stored r.0 r.1 r.2 r.3
     ]
 
   -- The call

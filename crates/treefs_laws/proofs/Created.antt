@@ -1,7 +1,7 @@
 -- A call makes an inode with its first name: what that makes of an open volume.
-use Rattle.std.proofs.Common.{◌≡◌, ℕ, ◌<◌, ◌≤◌, ◌^◌, List, [], ◌∷◌, length, drop, Ok, refl, sym, ◌∙◌, ap, inl, inr, arith, subst}
+use Rattle.std.proofs.Common.{◌≡◌, ◌≢◌, ℕ, ◌<◌, ◌≤◌, ◌^◌, List, [], ◌∷◌, length, drop, Ok, refl, sym, ◌∙◌, ap, inl, inr, arith, subst}
 use Rattle.std.specs.Prelude.{All, slice_index}
-use Rattle.std.proofs.lemmas.List.Elements.{All-cons}
+use Rattle.std.proofs.lemmas.List.Elements.{All-cons, All-weaker}
 use Rattle.xn_model.specs.Types.{Types}
 use Rattle.xn_model.specs.Lives.{StoreState}
 use Rattle.treefs_format.specs.Fields.{AreInRange}
@@ -27,7 +27,7 @@ use Rattle.treefs.specs.declared.attributes.Attributes.{Attributes}
 use Rattle.treefs.specs.declared.volume.Volume.{Volume}
 use Rattle.treefs_values.specs.Attached.{new_content}
 use Rattle.treefs_values.specs.Kinds.{kinds}
-use Rattle.treefs_values.proofs.ForCallers.{AreBegun, AreNew, AreOf, IsAt, IsFineStart, New, begun_so, blocks_in, directory_is}
+use Rattle.treefs_values.proofs.ForCallers.{AreBegun, AreNew, AreOf, IsAt, IsFineStart, IsNew, IsOther, IsTold, New, begun_so, blocks_in, directory_is, new_told}
 use Rattle.treefs_laws.specs.Kept.{IsKept}
 use Rattle.treefs_laws.specs.Making.{FitsAttributes, MakesInode, new_inode}
 use Rattle.treefs_laws.specs.Open.{IsOpen}
@@ -122,8 +122,12 @@ module _ (T : Types) (state state' : StoreState) (volume : Volume) (d : ℕ) (na
           AreNew node inode (kinds b0 fs) (readable b0 fs) top made' → Done
       from_begun [] blocks of news = absurd of
       from_begun (y ∷ ys) blocks of news =
-          first_begun T state state' volume d name is_open wide value (inode_bytes fields head) p.n p.directory p.free p.next p.addition p.addition_found fields head
-          in_range short refl k (mode_kind k attributes.permissions fit.permissions) empty value_is all begun b0 b y ys of.0 of.1 of.2 news
+          first_begun T state state' volume d name is_open wide value (inode_bytes fields head) p.n p.directory p.free p.next p.addition p.addition_found all begun
+          b0 b y.block (λ s. IsNew node inode (kinds s fs) (readable s fs) top y)
+          (λ xs s s' since news_xs apart is. since.keeps y is (All-weaker (λ (x : New). x.block ≢ y.block) (λ z. IsOther z y) (λ x ne same. ne (sym same)) xs apart))
+          (λ s there is h read. subst (IsTold node inode (kinds s fs) (readable s fs) top h y.block) value_is
+          (new_told node inode top (kinds s fs) (readable s fs) there.volume y is of.0 fields head of.1 in_range short refl k
+          (mode_kind k attributes.permissions fit.permissions) empty h read)) ys of.2 news.2 news.1 news.0
           (subst (λ bs. Ran T fs (commit_acts commit name (slice_index bs 0) (drop 1 bs)) b0 state' (Ok tt)) blocks ran)
 
     carried : Does T fs (new_plan name (record { inode = inode_bytes fields head; commit = commit })) state state' (Ok tt) → Done

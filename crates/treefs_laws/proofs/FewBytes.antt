@@ -9,8 +9,6 @@ use Rattle.std.proofs.lemmas.Option.{same_Some}
 use Rattle.xn_model.specs.Lives.{StoreState}
 use Rattle.treefs_format.specs.Leaves.{greatest_size}
 use Rattle.treefs_format.specs.Names.{is_name}
-use Rattle.treefs_format.specs.declared.kind.Kind.{Kind}
-use Rattle.treefs_format.specs.declared.kind.Kind.TheVariants as kind
 use Rattle.treefs_model.specs.Changes.{less_links, linkable, linked, lost, made, marked, may_go, more_links, move_name, moved, moved_to, new_name, overwritten, removed, renamed, replaceable, replaced, resized, rewritten, touched, truncated, unlinked, with_bytes, with_mtime, without_name, written}
 use Rattle.treefs_model.specs.Files.{Content, Directory, File, Files, Inode, SymbolicLink, and_then, bytes_in, changed_at, changed_in, directory_at, file_at, found, is_directory, names_for, number_in, renamed_in, when, with_entry, with_inode, with_name}
 use Rattle.treefs_model.specs.declared.fault.Fault.{Fault}
@@ -20,7 +18,6 @@ use Rattle.treefs_byte_plans.specs.declared.attributes.Owner.{Owner}
 use Rattle.treefs_values.specs.Bytes.{byte_over, put_within, with_put}
 use Rattle.treefs.specs.declared.attributes.Attributes.{Attributes as NewAttributes}
 use Rattle.treefs.specs.declared.volume.Volume.{Volume}
-use Rattle.treefs_values.specs.Attached.{new_content}
 use Rattle.treefs_laws.specs.Begun.{IsBegun}
 use Rattle.treefs_laws.specs.Making.{new_inode}
 use Rattle.treefs_laws.specs.Orphans.{IsLeftOf, IsOrphan, IsReaped}
@@ -342,12 +339,5 @@ pub directory_few : (time : ℤ) (attributes : NewAttributes) (d : ℕ) → IsOf
 directory_few time attributes d bytes is = absurd (cc is)
 
 pub begun_few : (state : StoreState) (volume : Volume) (block : ℕ) (inode : Inode) → IsBegun state volume block inode → IsOfFewBytes inode
-begun_few state volume block inode begun bytes is = by begun.of_kind (sym (ap (λ (i : Inode). bytes_in i.content) begun.value) ∙ is)
-  where
-    short : length begun.head ≤ 384
-    short = begun.short
-
-    by : (k : Kind) → bytes_in (new_content k begun.fields.parent begun.head) ≡ Ok bytes → length bytes ≤ greatest_size
-    by kind.Directory e = absurd (cc e)
-    by kind.File e = let same = ap length (same_done begun.head bytes e) in let s = short in omega arith
-    by kind.SymbolicLink e = let same = ap length (same_done begun.head bytes e) in let s = short in omega arith
+begun_few state volume block inode begun bytes is =
+    let same = ap length (same_done bytes begun.bytes (sym is ∙ begun.bytes_are)) in let few = begun.few in omega arith

@@ -7,16 +7,11 @@ use Rattle.std.proofs.lemmas.List.Elements.{All-append, All-weaker}
 use Rattle.xn_model.specs.Types.{Types}
 use Rattle.xn_model.specs.Lives.{StoreState}
 use Rattle.treefs_format.specs.Candidates.{candidates, name_hash}
-use Rattle.treefs_format.specs.Fields.{AreInRange}
-use Rattle.treefs_format.specs.Inodes.{inode_bytes, kind_of}
 use Rattle.treefs_format.specs.Paths.{leaf_count}
-use Rattle.treefs_format.specs.declared.fields.Fields.{Fields}
-use Rattle.treefs_format.specs.declared.kind.Kind.{Kind}
-use Rattle.treefs_format.specs.declared.kind.Kind.TheVariants as kind
 use Rattle.treefs_model.specs.Acts.{Ran}
 use Rattle.treefs_model.specs.Changes.{made, touched as touched_inode}
 use Rattle.treefs_model.specs.Files.{Files, Inode, changed_at, renamed_in, with_inode, with_name}
-use Rattle.treefs_model.specs.Reading.{files_of, inode_with, key_in}
+use Rattle.treefs_model.specs.Reading.{files_of, key_in}
 use Rattle.treefs_lookup.specs.Numbers.{IsNextNumber}
 use Rattle.treefs_lookup.specs.Readable.{readable}
 use Rattle.treefs_edits.specs.Memories.{with_touched}
@@ -32,10 +27,9 @@ use Rattle.treefs_name_plans.specs.declared.commit_plan.CommitPlan.{CommitPlan}
 use Rattle.treefs.specs.Committing.{committed_memory}
 use Rattle.treefs.specs.Remembered.{now_times}
 use Rattle.treefs.specs.declared.volume.Volume.{Volume}
-use Rattle.treefs_values.specs.Attached.{new_content}
 use Rattle.treefs_values.specs.Kinds.{kinds}
 use Rattle.treefs_values.specs.Values.{led_to}
-use Rattle.treefs_values.proofs.ForCallers.{AreBegun, AreNew, AreOf, IsAt, IsDirectoryAt, IsFineStart, New, blocks_in, candidates_few, directory_stays, of_long, of_parts}
+use Rattle.treefs_values.proofs.ForCallers.{AreBegun, AreNew, AreOf, IsAt, IsDirectoryAt, IsFineStart, IsRead, IsSince, IsTold, New, blocks_in, candidates_few, directory_stays, of_long, of_parts}
 use Rattle.treefs_laws.specs.Kept.{IsKept, files_in}
 use Rattle.treefs_laws.specs.Making.{MakesInode}
 use Rattle.treefs_laws.specs.Open.{IsOpen}
@@ -142,13 +136,16 @@ module _ (T : Types) (state state' : StoreState) (volume : Volume) (d : ℕ) (na
   IsDone s = IsAt T fs node inode top s × (files_of content top n ≡ None)
       × (files_of (readable s fs) top ≡ with_name (with_inode (files_of content top) n (Some value)) d name (led_to n))
 
-  -- its block, and those behind it, are begun
-  module _ (fields : Fields) (head : List ℕ) (in_range : AreInRange fields) (short : length head ≤ 384) (size : fields.size ≡ length head) (k : Kind)
-      (kind_is : kind_of fields.mode ≡ Some k) (empty : k ≡ kind.Directory → head ≡ []) (value_is : inode_with fields (new_content k fields.parent head) ≡ value)
-      (all : List Start) (begun : List ℕ) (b0 : StoreState) (b : AreBegun T fs node inode top is_open.few is_open.tree all [] begun state b0) where
-    pub first_begun : (y : New) (ys : List New) → y.ty ≡ inode → y.bytes ≡ inode_bytes fields head → AreOf T fs node inode top is_open.few is_open.tree starts ys →
-        AreNew node inode (kinds b0 fs) (readable b0 fs) top (y ∷ ys) → Ran T fs (commit_acts commit name y.block (blocks_in ys)) b0 state' (Ok tt) → IsDone state'
-    first_begun y ys y_type y_bytes of news ran =
+  -- blocks are begun; y: that of the inode, of which what is told stays so, and is enough
+  module _ (all : List Start) (begun : List ℕ) (b0 : StoreState) (b : AreBegun T fs node inode top is_open.few is_open.tree all [] begun state b0) (y : ℕ)
+      (Tells : StoreState → Type 0)
+      (tells : (xs : List New) (s s' : StoreState) → IsSince T fs node inode top xs s s' → AreNew node inode (kinds s fs) (readable s fs) top xs →
+      All (λ x. x.block ≢ y) xs → Tells s → Tells s')
+      (told : (s : StoreState) → IsAt T fs node inode top s → Tells s → (h : ℕ) → IsRead (readable s fs) top h →
+      IsTold node inode (kinds s fs) (readable s fs) top h y value) where
+    pub first_begun : (ys : List New) → AreOf T fs node inode top is_open.few is_open.tree starts ys → AreNew node inode (kinds b0 fs) (readable b0 fs) top ys →
+        All (λ x. x.block ≢ y) ys → Tells b0 → Ran T fs (commit_acts commit name y (blocks_in ys)) b0 state' (Ok tt) → IsDone state'
+    first_begun ys of news others first ran =
         let parts = of_parts T fs node inode top is_open.few is_open.tree (node_starts node inode (table_nodes commit)) (addition_starts addition) ys of in
         let xs : List New = parts.0 in
         let zs : List New = parts.1 in
@@ -161,16 +158,15 @@ module _ (T : Types) (state state' : StoreState) (volume : Volume) (d : ℕ) (na
         ap (take (length (table_nodes commit))) split ∙ take_at (blocks_in xs) (blocks_in zs) (length (table_nodes commit)) long in
         let back : drop (length (table_nodes commit)) (blocks_in ys) ≡ blocks_in zs =
         ap (drop (length (table_nodes commit))) split ∙ drop_at (blocks_in xs) (blocks_in zs) (length (table_nodes commit)) long in
-        let ran' = subst (λ acts. Ran T fs acts b0 state' (Ok tt)) (λ j. commit_acts_of commit name y.block (front j) (back j)) ran in
+        let ran' = subst (λ acts. Ran T fs acts b0 state' (Ok tt)) (λ j. commit_acts_of commit name y (front j) (back j)) ran in
         let stays = directory_stays content (readable b0 fs) top d c key b.inodes dir in
         let done = first_named T fs node inode top is_open.few is_open.tree state d c key name free.named wide (name_long name free.named) few_of n n_short
-        n_some n_within next.can.free fields head in_range short size k kind_is empty addition placed b0 state' y xs zs b.at stays.0
-        (record { alike = stays.1; ways = stays.2 }) b.ways y_type y_bytes parts.3 parts.4
-        (subst (λ l. AreNew node inode (kinds b0 fs) (readable b0 fs) top (y ∷ l)) parts.2 news) ran' in (
+        n_some n_within next.can.free value addition placed y Tells tells told b0 state' xs zs b.at stays.0
+        (record { alike = stays.1; ways = stays.2 }) b.ways parts.3 parts.4
+        (subst (AreNew node inode (kinds b0 fs) (readable b0 fs) top) parts.2 news) (subst (All (λ x. x.block ≢ y)) parts.2 others) first ran' in (
           done.0,
           ap (λ f. f n) (sym b.files) ∙ done.1,
-          done.2 ∙ (ap (λ f. with_name (with_inode f n (Some (inode_with fields (new_content k fields.parent head)))) d name (led_to n)) b.files
-              ∙ ap (λ x. with_name (with_inode (files_of content top) n (Some x)) d name (led_to n)) value_is),
+          done.2 ∙ ap (λ f. with_name (with_inode f n (Some value)) d name (led_to n)) b.files,
         )
 
   -- The volume

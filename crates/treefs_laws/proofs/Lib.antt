@@ -88,6 +88,8 @@ mod NodesAttached
 mod RunPlanned
 mod RunStarts
 mod ForgottenBlocks
+mod RunActs
+mod RunOver
 mod RunWritten
 mod WriteSteps
 mod WriteDone
@@ -107,3 +109,11 @@ mod AsideTrims
 mod AsideRun
 mod AsideWritten
 mod BegunWritten
+mod OwnVolume
+mod OwnSaid
+mod OwnGrown
+mod OwnRun
+mod OwnTrims
+mod OwnTrimmed
+mod BegunGrown
+mod AsideTold

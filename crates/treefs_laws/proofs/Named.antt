@@ -1,25 +1,24 @@
 -- An inode is begun, gets its number, and a first name: what that makes of the store and of the files.
-use Rattle.std.proofs.Common.{◌≡◌, ◌≢◌, ℕ, ◌+◌, ◌-◌, ◌<◌, ◌≤◌, ◌^◌, true, false, List, [], ◌∷◌, ◌++◌, length, take, drop, None, Some, Ok, refl, sym, ◌∙◌, ap, inl, inr, arith, subst, if◌then◌else◌}
+use Rattle.std.proofs.Common.{◌≡◌, ◌≢◌, ◌⊎◌, ℕ, ◌+◌, ◌-◌, ◌<◌, ◌≤◌, ◌^◌, Bool, true, false, List, [], ◌∷◌, ◌++◌, length, take, drop, None, Some, Ok, refl, sym, ◌∙◌, ap, inl, inr, arith, subst, if◌then◌else◌}
 use Rattle.std.specs.Prelude.{All, Contains, IsTrue, slice_index, ◌==◌}
 use Rattle.std.proofs.lemmas.Bool.{eqb-false, eqb-true}
 use Rattle.std.proofs.lemmas.List.{append-nil}
-use Rattle.std.proofs.lemmas.List.Elements.{All-weaker}
+use Rattle.std.proofs.lemmas.List.Elements.{All-nil}
+use Rattle.treefs_model.specs.Trees.{has_pointer}
 use Rattle.xn_model.specs.Types.{Types}
 use Rattle.xn_model.specs.Lives.{StoreState}
 use Rattle.treefs_format.specs.Buckets.{room_without}
 use Rattle.treefs_format.specs.Candidates.{candidates, name_hash}
-use Rattle.treefs_format.specs.Fields.{AreInRange, fields_of}
-use Rattle.treefs_format.specs.Inodes.{content_of, inode_bytes, kind_of}
+use Rattle.treefs_format.specs.Fields.{fields_of}
+use Rattle.treefs_format.specs.Inodes.{content_of, kind_of}
 use Rattle.treefs_format.specs.Names.{is_name}
 use Rattle.treefs_format.specs.Paths.{leaf_count, steps}
 use Rattle.treefs_format.specs.Records.{Entry, Record, end_of, entries_of, is_live, records_of}
 use Rattle.treefs_format.specs.Templates.{IsTree}
-use Rattle.treefs_format.specs.declared.fields.Fields.{Fields}
-use Rattle.treefs_format.specs.declared.kind.Kind.{Kind}
 use Rattle.treefs_format.specs.declared.kind.Kind.TheVariants as kind
 use Rattle.treefs_model.specs.Acts.{Act, Ran, attach_act, record_act}
 use Rattle.treefs_model.specs.Files.{Inode, with_inode, with_name}
-use Rattle.treefs_model.specs.Reading.{block_at, bucket_of, files_of, inode_with, leaf_block}
+use Rattle.treefs_model.specs.Reading.{block_at, bucket_of, files_of, leaf_block}
 use Rattle.treefs_lookup.specs.Buckets.{bucket_block, bucket_start}
 use Rattle.treefs_lookup.specs.Readable.{readable}
 use Rattle.treefs_lookup.specs.Walks.{reach}
@@ -33,11 +32,10 @@ use Rattle.treefs_name_plans.specs.declared.addition.Addition.{Addition}
 use Rattle.treefs_name_plans.specs.declared.addition.Addition.TheVariants.{Behind, Rewritten, Made}
 use Rattle.treefs_name_plans.specs.declared.naming.Naming.TheVariants.{Added}
 use Rattle.treefs_lookup.specs.declared.names.Slot.{Slot}
-use Rattle.treefs_values.specs.Attached.{new_content}
 use Rattle.treefs_values.specs.Kinds.{kinds}
 use Rattle.treefs_values.specs.Values.{led_to}
 use Rattle.treefs_values.specs.Ways.{IsWay, block_numbered}
-use Rattle.treefs_values.proofs.ForCallers.{AreFree, AreNew, AreOf, IsAlike, IsAt, IsBehind, IsDirectoryAt, IsEdit, IsKeptInode, IsNew, IsOther, IsPlace, New, Stands, all_front, blocks_in, bucket_same, directory_names, directory_stays, edit_is, free_stays, inodes_stay, leafed_so, made_behind, new_kept, new_parts, place_stays, placed_files, placed_here, placed_keeps, rewritten_behind, rewritten_directory, rewritten_files, rewritten_here, rewritten_inode, rewritten_keeps, rewritten_ways, rewriting_numbered, rewriting_own, rewriting_stands, same_bucket, stands_names, tabled_so}
+use Rattle.treefs_values.proofs.ForCallers.{AreFree, AreNew, AreOf, IsAlike, IsAt, IsBehind, IsDirectoryAt, IsEdit, IsKeptInode, IsNew, IsOther, IsPlace, IsRead, IsSince, IsTold, New, Stands, all_front, blocks_in, bucket_same, directory_names, directory_stays, edit_is, free_stays, inodes_stay, leafed_so, made_behind, new_kept, new_parts, place_stays, placed_files, placed_here, placed_keeps, rewritten_behind, rewritten_changed, rewritten_directory, rewritten_files, rewritten_here, rewritten_inode, rewritten_keeps, rewritten_points, rewritten_some, rewritten_ways, rewriting_numbered, rewriting_own, rewriting_stands, same_bucket, stands_names, steps_way, tabled_so}
 use Rattle.treefs_laws.proofs.NewPlanned.{IsAddition, IsToMake}
 
 module _ (T : Types) (fs node inode top : ℕ) (few : fs < 32) (tree : IsTree T node inode) (plan : StoreState) (d c : ℕ) (key name : List ℕ)
@@ -182,6 +180,25 @@ module _ (T : Types) (fs node inode top : ℕ) (few : fs < 32) (tree : IsTree T 
           Stands (readable middle fs) top d' name' block' offset'
       pub moved : (slot : Slot) (name' : List ℕ) (s : Stands (readable old fs) top d name' slot.block slot.offset) → is_live s.record_of.entry ≡ true →
           stands_in (Added addition) slot.block ≡ true → Stands (readable middle fs) top d name' slot.block (old_offset slot (Added addition))
+      pub since : IsSince T fs node inode top [] old middle
+
+    since_same : (s : StoreState) → IsHere s → IsSince T fs node inode top [] s s
+    since_same s here = record { here = here; types = refl; others = λ b unread apart. refl; unled = λ b apart is. is; keeps = λ x is apart. is }
+
+    -- the block of a bucket is read
+    bucket_read : (content : ℕ → List ℕ) (k : ℕ) → block_numbered content top d ≡ c → bucket_block content c k ≢ 0 → IsRead content top (bucket_block content c k)
+    bucket_read content k is some = (some, by (k == 0) refl)
+      where
+        by : (t : Bool) → (k == 0) ≡ t → ((m : ℕ) × (bucket_block content c k ≡ block_numbered content top m))
+            ⊎ ((m l : ℕ) × (os : List ℕ) × IsWay os l × (bucket_block content c k ≡ block_at content (block_numbered content top m) os))
+        by true e = inl (d, ap (λ t. if t then c else leaf_block content c (k - 1)) e ∙ sym is)
+        by false e = inr (
+          d,
+          0,
+          steps (k - 1),
+          steps_way (k - 1),
+          ap (λ t. if t then c else leaf_block content c (k - 1)) e ∙ ap (λ x. leaf_block content x (k - 1)) (sym is),
+        )
 
     -- of the directory, since it was planned
     pub record StandsSince (s : StoreState) : Type 0 where
@@ -203,6 +220,7 @@ module _ (T : Types) (fs node inode top : ℕ) (few : fs < 32) (tree : IsTree T 
       numbered = λ m. refl;
       stands = λ d' name' block' offset' s apart. s;
       moved = λ slot name' s live same. s;
+      since = since_same old here;
     }
     prepared_so (Made made) rest old new here dir since is ran = record {
       middle = old;
@@ -222,6 +240,7 @@ module _ (T : Types) (fs node inode top : ℕ) (few : fs < 32) (tree : IsTree T 
       numbered = λ m. refl;
       stands = λ d' name' block' offset' s apart. s;
       moved = λ slot name' s live same. s;
+      since = since_same old here;
     }
     prepared_so (Rewritten bucket) rest old new here dir since is ran = elim ran [
       | inl none ↦ absurd none
@@ -271,14 +290,24 @@ module _ (T : Types) (fs node inode top : ℕ) (few : fs < 32) (tree : IsTree T 
                 sym (ap (λ t. if t then rewritten_offset bucket slot.offset else slot.offset) in_it ∙ (λ j. is.start_is j + (length (front j) - room_without (front j)))) in
                 let block : bucket_block (readable old fs) c k ≡ slot.block = block_same ∙ (sym is.block_is ∙ e) in
                 subst (λ (x : List ℕ × ℕ × ℕ). Stands (readable r.1 fs) top d x.0 x.1 x.2) (λ j. (s.named j, block j, offset j)) (rw.2 s.record_of there live);
+            since = record {
+              here = rewritten_here T fs node inode top old here d c key dir r.1 k k_few full edit;
+              types = edit.types;
+              others = λ b unread apart. rewritten_changed T fs node inode top old here d c key dir r.1 k k_few full edit b
+                  (λ is_bucket. unread (subst (IsRead (readable old fs) top) (sym is_bucket) (bucket_read (readable old fs) k dir.block
+                  (rewritten_some T fs node inode top old here d c key dir r.1 k k_few full edit))));
+              unled = λ b apart unled p o has led.
+                  let was = subst (λ t. IsTrue (has_pointer node inode (t p) o)) edit.types has in
+                  unled p o was (sym (rewritten_points T fs node inode top old here d c key dir r.1 k k_few full edit p o was) ∙ led);
+              keeps = λ x is apart. rewritten_keeps T fs node inode top old here d c key dir r.1 k k_few full edit x is;
+            };
           }
     ]
 
     -- The inode, its number and its name
 
     module _ (number : n ≢ 0) (n_within : n - 1 < leaf_count) (n_free : leaf_block (readable plan fs) top (n - 1) ≡ 0)
-        (fields : Fields) (head : List ℕ) (in_range : AreInRange fields) (short : length head ≤ 384) (size : fields.size ≡ length head)
-        (k : Kind) (kind_is : kind_of fields.mode ≡ Some k) (empty : k ≡ kind.Directory → head ≡ []) (addition : Addition) (is : IsAddition (readable plan fs) key node c name addition) where
+        (value : Inode) (addition : Addition) (is : IsAddition (readable plan fs) key node c name addition) where
       abbrev table : ℕ
       table = (reach (readable plan fs) top (steps (n - 1))).block
 
@@ -290,9 +319,6 @@ module _ (T : Types) (fs node inode top : ℕ) (few : fs < 32) (tree : IsTree T 
 
       abbrev nodes_of : List ℕ
       nodes_of = take (missing - 1) path
-
-      abbrev value : Inode
-      value = inode_with fields (new_content k fields.parent head)
 
       -- y: the block of the inode; nodes, others: those of the table, and for the record
       abbrev all_acts : ℕ → List ℕ → List ℕ → List Act
@@ -306,29 +332,35 @@ module _ (T : Types) (fs node inode top : ℕ) (few : fs < 32) (tree : IsTree T 
       IsFirstNamed old new = IsHere new × (files_of (readable old fs) top n ≡ None)
           × (files_of (readable new fs) top ≡ with_name (with_inode (files_of (readable old fs) top) n (Some value)) d name (led_to n))
 
-      pub first_named : (old new : StoreState) (y : New) (xs zs : List New) → IsHere old → Dir old → StandsSince old →
-          ((l : ℕ) (os : List ℕ) → IsWay os l → block_at (readable old fs) top os ≡ block_at (readable plan fs) top os) → y.ty ≡ inode → y.bytes ≡ inode_bytes fields head →
-          Of (node_starts node inode nodes_of) xs → Of (addition_starts addition) zs → News old (y ∷ (xs ++ zs)) →
-          Ran T fs (all_acts y.block (blocks_in xs) (blocks_in zs)) old new (Ok tt) → IsFirstNamed old new
-      first_named old new y xs zs here dir since ways y_type y_bytes of_xs of_zs news ran =
-          let holder : ℕ = last_or_owner table (blocks_in xs) in
-          let last_acts = addition_acts addition (blocks_in zs) entry holder in
-          let p = prepared_so addition (node_acts node inode table nodes_of (blocks_in xs)
-          ++ (attach_act holder (slice_index path (missing - 1)) inode (y.block ∷ []) (Some y.block) ∷ (last_acts ++ []))) old new here dir since is ran in
-          let news' : News p.middle (y ∷ (xs ++ zs)) =
-          new_kept node inode top (kinds old fs) (kinds p.middle fs) (readable old fs) (readable p.middle fs) (λ x. Unit {0}) (y ∷ (xs ++ zs)) (λ i e lt. tt) (λ x any. p.keeps x) news in
-          let apart = all_front (IsOther y) xs zs news'.1 in
-          let parts = new_parts node inode top (kinds p.middle fs) (readable p.middle fs) xs zs news'.2 in
-          let t = tabled_so T fs node inode top few tree p.middle plan p.prepared (λ l os way. p.ways l os way ∙ ways l os way) n number n_within n_free fields head in_range short
-          size k kind_is empty xs y of_xs parts.0 news'.0 (All-weaker (IsOther y) (λ z. IsOther z y) (λ z ne same. ne (sym same)) xs apart.0) y_type y_bytes (last_acts ++ []) new p.ran in
-          let stays = directory_stays (readable p.middle fs) (readable t.middle fs) top d c key t.inodes p.dir in
-          let ready = ready_stays p.middle t.middle stays.1 stays.2 addition p.ready in
-          let zs_new : News t.middle zs =
-          new_kept node inode top (kinds p.middle fs) (kinds t.middle fs) (readable p.middle fs) (readable t.middle fs) (λ z. All (λ x. IsOther x z) xs × IsOther y z) zs
-          (λ i e lt. (parts.2 i e lt, apart.1 i e lt)) (λ z both z_new. t.keeps z z_new both.0 both.1) parts.1 in
-          let done = addition_made addition t.middle new holder zs t.tabled stays.0 ready of_zs zs_new
-          (subst (λ acts. Ran T fs acts t.middle new (Ok tt)) (append-nil last_acts) t.ran) in (
-            done.0,
-            ap (λ f. f n) (sym p.files) ∙ t.was,
-            done.1 ∙ ap (λ f. with_name f d name (led_to n)) (t.files ∙ ap (λ f. with_inode f n (Some value)) p.files),
-          )
+      -- what is told of the inode's block stays so, and is enough
+      module _ (y : ℕ) (Tells : StoreState → Type 0)
+          (tells : (xs : List New) (s s' : StoreState) → IsSince T fs node inode top xs s s' → News s xs → All (λ x. x.block ≢ y) xs → Tells s → Tells s')
+          (told : (s : StoreState) → IsHere s → Tells s → (h : ℕ) → IsRead (readable s fs) top h →
+          IsTold node inode (kinds s fs) (readable s fs) top h y value) where
+        pub first_named : (old new : StoreState) (xs zs : List New) → IsHere old → Dir old → StandsSince old →
+            ((l : ℕ) (os : List ℕ) → IsWay os l → block_at (readable old fs) top os ≡ block_at (readable plan fs) top os) →
+            Of (node_starts node inode nodes_of) xs → Of (addition_starts addition) zs → News old (xs ++ zs) → All (λ x. x.block ≢ y) (xs ++ zs) → Tells old →
+            Ran T fs (all_acts y (blocks_in xs) (blocks_in zs)) old new (Ok tt) → IsFirstNamed old new
+        first_named old new xs zs here dir since ways of_xs of_zs news others first ran =
+            let holder : ℕ = last_or_owner table (blocks_in xs) in
+            let last_acts = addition_acts addition (blocks_in zs) entry holder in
+            let p = prepared_so addition (node_acts node inode table nodes_of (blocks_in xs)
+            ++ (attach_act holder (slice_index path (missing - 1)) inode (y ∷ []) (Some y) ∷ (last_acts ++ []))) old new here dir since is ran in
+            let news' : News p.middle (xs ++ zs) =
+            new_kept node inode top (kinds old fs) (kinds p.middle fs) (readable old fs) (readable p.middle fs) (λ x. Unit {0}) (xs ++ zs) (λ i e lt. tt) (λ x any. p.keeps x) news in
+            let apart = all_front (λ x. x.block ≢ y) xs zs others in
+            let parts = new_parts node inode top (kinds p.middle fs) (readable p.middle fs) xs zs news' in
+            let middle_tells = tells [] old p.middle p.since tt (All-nil (λ (x : New). x.block ≢ y)) first in
+            let t = tabled_so T fs node inode top few tree p.middle plan p.prepared (λ l os way. p.ways l os way ∙ ways l os way) n number n_within n_free value xs y of_xs parts.0
+            (λ s since h read. told s since.here (tells xs p.middle s since parts.0 apart.0 middle_tells) h read) (last_acts ++ []) new p.ran in
+            let stays = directory_stays (readable p.middle fs) (readable t.middle fs) top d c key t.inodes p.dir in
+            let ready = ready_stays p.middle t.middle stays.1 stays.2 addition p.ready in
+            let zs_new : News t.middle zs =
+            new_kept node inode top (kinds p.middle fs) (kinds t.middle fs) (readable p.middle fs) (readable t.middle fs) (λ z. All (λ x. IsOther x z) xs × (z.block ≢ y)) zs
+            (λ i e lt. (parts.2 i e lt, apart.1 i e lt)) (λ z both z_new. t.keeps z z_new both.0 both.1) parts.1 in
+            let done = addition_made addition t.middle new holder zs t.tabled stays.0 ready of_zs zs_new
+            (subst (λ acts. Ran T fs acts t.middle new (Ok tt)) (append-nil last_acts) t.ran) in (
+              done.0,
+              ap (λ f. f n) (sym p.files) ∙ t.was,
+              done.1 ∙ ap (λ f. with_name f d name (led_to n)) (t.files ∙ ap (λ f. with_inode f n (Some value)) p.files),
+            )

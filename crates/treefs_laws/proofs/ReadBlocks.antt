@@ -13,14 +13,10 @@ use Rattle.treefs_model.specs.Reading.{block_at, files_of, inode_block, inode_of
 use Rattle.treefs_values.specs.Volumes.{IsDirectory, IsVolume, IsWholeBlock}
 use Rattle.treefs_values.specs.Ways.{ArePointersApart, IsTyped, IsWay, block_numbered}
 use Rattle.treefs_values.proofs.ForCallers.{IsAlike, file_read, inode_numbered}
+pub use Rattle.treefs_values.proofs.ForCallers.{IsRead}
 use Rattle.treefs_laws.proofs.BlockAside.{alike_directory, alike_inode}
 use Rattle.treefs_laws.proofs.PointersGone.{IsUnled}
 use Rattle.treefs_laws.proofs.WaysApart.{IsInodeBlock, below_root, file_none, none_below, not_root, numbered_block, numbered_led, same_way, steps_way, way_pointer}
-
--- the block of a number, or one to which a way from it leads
-abbrev pub IsRead : (ℕ → List ℕ) → ℕ → ℕ → Type 0
-IsRead content top b = (b ≢ 0) × (((m : ℕ) × (b ≡ block_numbered content top m))
-    ⊎ ((m k : ℕ) × (os : List ℕ) × IsWay os k × (b ≡ block_at content (block_numbered content top m) os)))
 
 module _ (node inode top : ℕ) (type type' : ℕ → ℕ) (old new : ℕ → List ℕ) (v : IsVolume node inode type old top)
     (kept : (b : ℕ) → IsRead old top b → (type' b ≡ type b) × (new b ≡ old b)) where

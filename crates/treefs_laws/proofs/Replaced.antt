@@ -15,7 +15,7 @@ use Rattle.treefs_format.specs.declared.kind.Kind.TheVariants as kind
 use Rattle.treefs_model.specs.Acts.{Act, Ran, number_act}
 use Rattle.treefs_model.specs.Changes.{less_links, lost, made, new_name, replaceable, replaced, touched as touched_inode}
 use Rattle.treefs_model.specs.Files.{Files, Inode, Names, and_then, changed_at, changed_in, found, is_directory, names_for, renamed_in, when, with_inode, with_name}
-use Rattle.treefs_model.specs.Reading.{files_of, inode_with, key_in}
+use Rattle.treefs_model.specs.Reading.{files_of, key_in}
 use Rattle.treefs_model.specs.declared.fault.Fault.{Fault}
 use Rattle.treefs_model.specs.declared.fault.Fault.TheVariants.{Exists, IsDir, NoEntry}
 use Rattle.treefs_lookup.specs.Inodes.{inode_found}
@@ -24,7 +24,7 @@ use Rattle.treefs_lookup.specs.Readable.{readable}
 use Rattle.treefs_lookup.specs.declared.inodes.Found.{Found}
 use Rattle.treefs_edits.specs.Memories.{with_touched}
 use Rattle.treefs_edits.specs.Missing.{node_starts}
-use Rattle.treefs_edits.specs.Plans.{Does}
+use Rattle.treefs_edits.specs.Plans.{Begins, Does}
 use Rattle.treefs_edits.specs.declared.memory.Touched.{Touched}
 use Rattle.treefs_edits.specs.declared.start.Start.{Start}
 use Rattle.treefs_edits.specs.declared.times.Times.{Times}
@@ -37,18 +37,18 @@ use Rattle.treefs_edits.specs.Missing.{last_or_owner}
 use Rattle.treefs.specs.Committing.{CommitDoes, committed_memory}
 use Rattle.treefs.specs.Remembered.{now_times, written_times}
 use Rattle.treefs.specs.declared.volume.Volume.{Volume}
-use Rattle.treefs_values.specs.Attached.{new_content}
 use Rattle.treefs_values.specs.Kinds.{kinds}
 use Rattle.treefs_values.specs.Values.{KeepsBlocks, inode_with_links, led_to}
 use Rattle.treefs_values.specs.Volumes.{IsVolume}
 use Rattle.treefs_values.specs.Ways.{block_numbered}
-use Rattle.treefs_values.proofs.ForCallers.{AreBegun, AreNew, AreOf, IsAt, IsEntry, IsFineStart, IsFound, IsNew, IsOther, KeepsInodes, New, acts_read, all_front, begun_so, blocks_in, entry_is, entry_still, found_inode, found_still, inodes_then, name_led, new_parts, of_long, of_parts, tabled_so}
+use Rattle.treefs_values.proofs.ForCallers.{AreBegun, AreNew, AreOf, IsAt, IsEntry, IsFineStart, IsFound, KeepsInodes, New, acts_read, all_front, begun_so, blocks_in, entry_is, entry_still, found_inode, found_still, inodes_then, name_led, new_parts, of_long, of_parts, tabled_so}
 use Rattle.treefs_laws.specs.Kept.{IsKept, files_in}
 use Rattle.treefs_laws.specs.Begun.{IsBegun}
 use Rattle.treefs_laws.specs.Open.{IsOpen}
 use Rattle.treefs_laws.specs.Seen.{AreTimes, AreTouchedOnce, IsSession, seen_files, seen_inode, times_in}
+use Rattle.treefs_laws.proofs.AsideTold.{aside_tells, aside_told, begun_others, begun_tells, others_are}
 use Rattle.treefs_laws.proofs.Begun.{fine_nodes}
-use Rattle.treefs_laws.proofs.Committed.{IsPlanned, empty, first_said, here, is_new, planned_so, y}
+use Rattle.treefs_laws.proofs.Committed.{IsPlanned, first_said, here, planned_so}
 use Rattle.treefs_laws.proofs.FirstName.{made_there, nodes_long, seen_with}
 use Rattle.treefs_laws.proofs.Ended.{apart, fewer, times_by}
 use Rattle.treefs_laws.proofs.NamesEnd.{fit, inode_seen, links_are_changes, newest, number_is, short, touched_session, value, value_there}
@@ -186,12 +186,6 @@ module _ (T : Types) (state state' : StoreState) (volume : Volume) (d : ℕ) (na
   abbrev seen : Files
   seen = files_in state volume
 
-  abbrev own : New
-  own = y T state state' volume d name is_open wide block inode_now y_is
-
-  own_new : IsNew node inode (kinds state fs) (readable state fs) top own
-  own_new = is_new T state state' volume d name is_open wide block inode_now y_is
-
   module _ (plan : CommitPlan) (p : IsSecondPlan state volume.tree volume.memory d name [] plan) where
     abbrev n : ℕ
     n = p.n
@@ -252,8 +246,12 @@ module _ (T : Types) (state state' : StoreState) (volume : Volume) (d : ℕ) (na
         × (files_of (readable s fs) top
         ≡ changed_at (with_name (with_inode (files_of content top) n (Some inode_now)) d name (led_to n)) m (inode_with_links (old_links - 1) old_times None))
 
-    module _ (begun : List ℕ) (b0 : StoreState) (b : AreBegun T fs node inode top is_open.few is_open.tree starts [] begun state b0)
+    module _ (begun : List ℕ) (b0 : StoreState) (begins : Begins T fs starts [] state b0 (Ok begun))
         (ran : Ran T fs (commit_acts commit name block begun) b0 state' (Ok tt)) where
+      is_begun : AreBegun T fs node inode top is_open.few is_open.tree starts [] begun state b0
+      is_begun = begun_so T fs node inode top is_open.few is_open.tree starts [] begun state b0 fine
+          (here T state state' volume d name is_open wide block inode_now y_is) begins
+
       -- behind the acts that make the inode
       abbrev ends : ℕ → List Act
       ends holder = number_act end.block end.offset n (Some holder) ∷ link_act end.fewer end.block ∷ []
@@ -284,8 +282,8 @@ module _ (T : Types) (state state' : StoreState) (volume : Volume) (d : ℕ) (na
           )
 
       from_begun : (ys : List New) → begun ≡ blocks_in ys → AreOf T fs node inode top is_open.few is_open.tree starts ys →
-          AreNew node inode (kinds b0 fs) (readable b0 fs) top ys → IsNew node inode (kinds b0 fs) (readable b0 fs) top own → All (IsOther own) ys → IsDone state'
-      from_begun ys blocks of news own_then others =
+          AreNew node inode (kinds b0 fs) (readable b0 fs) top ys → All (λ x. x.block ≢ block) ys → IsDone state'
+      from_begun ys blocks of news others =
           let parts = of_parts T fs node inode top is_open.few is_open.tree (node_starts node inode (table_nodes commit)) [] ys of in
           let xs : List New = parts.0 in
           let zs : List New = parts.1 in
@@ -298,23 +296,22 @@ module _ (T : Types) (state state' : StoreState) (volume : Volume) (d : ℕ) (na
           let ran'' = subst (λ acts. Ran T fs acts b0 state' (Ok tt)) (λ j. commit_acts_of commit name block (front j) []) ran' in
           let holder : ℕ = last_or_owner commit.owner (blocks_in xs) in
           let news' = new_parts node inode top (kinds b0 fs) (readable b0 fs) xs zs (subst (AreNew node inode (kinds b0 fs) (readable b0 fs) top) parts.2 news) in
-          let apart = all_front (IsOther own) xs zs (subst (All (IsOther own)) parts.2 others) in
-          let t = tabled_so T fs node inode top is_open.few is_open.tree b0 state b.at b.ways n n_some n_within p.next.can.free y_is.fields y_is.head y_is.in_range y_is.short
-          y_is.size y_is.of_kind y_is.kind_is (empty T state state' volume d name is_open wide block inode_now y_is) xs own parts.3 news'.0 own_then
-          (All-weaker (IsOther own) (λ z. IsOther z own) (λ z ne same. ne (sym same)) xs apart.0) refl refl (ends holder) state' ran'' in
-          from_middle holder t.middle t.tabled (inodes_then content (readable b0 fs) (readable t.middle fs) top b.inodes t.inodes) (ap (λ f. f n) (sym b.files) ∙ t.was)
-          (t.files ∙ (ap (λ f. with_inode f n (Some (inode_with y_is.fields (new_content y_is.of_kind y_is.fields.parent y_is.head)))) b.files
-          ∙ ap (λ x. with_inode (files_of content top) n (Some x)) (sym y_is.value))) t.ran
+          let apart = all_front (λ x. x.block ≢ block) xs zs (subst (All (λ x. x.block ≢ block)) parts.2 others) in
+          let tells = begun_tells T state volume is_open block inode_now y_is starts fine begun b0 begins in
+          let t = tabled_so T fs node inode top is_open.few is_open.tree b0 state is_begun.at is_begun.ways n n_some n_within p.next.can.free inode_now xs block parts.3 news'.0
+          (λ s since h read. aside_told T state volume is_open block inode_now y_is s
+          (aside_tells T state volume is_open block inode_now y_is xs b0 s since news'.0 apart.0 tells) h read) (ends holder) state' ran'' in
+          from_middle holder t.middle t.tabled (inodes_then content (readable b0 fs) (readable t.middle fs) top is_begun.inodes t.inodes) (ap (λ f. f n) (sym is_begun.files) ∙ t.was)
+          (t.files ∙ ap (λ f. with_inode f n (Some inode_now)) is_begun.files) t.ran
 
       pub stored : IsDone state'
-      stored =
-          let both = b.keeps own own_new in
-          from_begun b.made b.blocks_are b.of b.news both.0 both.1
+      stored = from_begun is_begun.made is_begun.blocks_are is_begun.of is_begun.news (others_are block is_begun.made (subst (All (λ x. x ≢ block)) is_begun.blocks_are
+          (begun_others T state volume is_open block inode_now y_is starts fine begun b0 begins)))
 
     carried : Does T fs (commit_plan name block commit) state state' (Ok tt) → IsDone state'
     carried does = elim does [
       | inl none ↦ absurd none
-      | inr r ↦ stored r.0 r.1 (begun_so T fs node inode top is_open.few is_open.tree starts [] r.0 state r.1 fine (here T state state' volume d name is_open wide block inode_now y_is) r.2) r.3
+      | inr r ↦ stored r.0 r.1 r.2 r.3
     ]
 
     -- The volume

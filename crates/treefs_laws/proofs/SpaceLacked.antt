@@ -61,7 +61,7 @@ module _ (T : Types) (old new : StoreState) (volume volume' : Volume) (is_open :
   top = volume.tree.top
 
   module _ (same : SameLives T fs old.lives new) where
-    reads : readable new fs ≡ readable old fs
+    pub reads : readable new fs ≡ readable old fs
     reads = fun_ext (λ b. readable_is new fs b ∙ (ap (λ o. if may_read fs o then life_bytes o else []) (same.1 b) ∙ sym (readable_is old fs b)))
 
     types : kinds new fs ≡ kinds old fs

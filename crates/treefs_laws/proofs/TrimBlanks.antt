@@ -83,6 +83,15 @@ not_true : (t : Bool) → not t ≡ true → t ≡ false
 not_true true e = absurd (cc e)
 not_true false e = refl
 
+-- a leaf with bytes past one is there
+pub leaf_past : (m : ℕ → List ℕ) (c end : ℕ) → 384 ≤ end → blank (bytes_past m c end) ≡ false → leaf_block m c (end / 512) ≢ 0
+leaf_past m c end high some z =
+    let left : part_left end ≡ 512 - end % 512 = ap (λ t. if t then 384 - end else 512 - end % 512) (le-ltb end 384 high) in
+    true≢false (sym (blank_range (byte_of m c) (part_left end) end (λ p low lt.
+    let same : p / 512 ≡ end / 512 = omega arith in
+    ap (λ t. if t then slice_index (m c) (128 + p) else leaf_byte m (leaf_block m c (p / 512)) (p % 512)) (le-ltb p 384 (omega arith))
+    ∙ (ap (λ i. leaf_byte m (leaf_block m c i) (p % 512)) same ∙ ap (λ x. leaf_byte m x (p % 512)) z))) ∙ some)
+
 -- bytes past all of a list change none of it
 module _ (f : ℕ → ℕ) (size first : ℕ) (bytes : List ℕ) (past : size ≤ first) where
   abbrev listed : List ℕ
@@ -289,12 +298,7 @@ module _ (T : Types) (tree : Tree) (n : ℕ) (number : n ≢ 0) (c size : ℕ) (
 
     -- in a leaf
     leaf_there : 384 ≤ end → blank (bytes_past m c end) ≡ false → leaf_block m c (end / 512) ≢ 0
-    leaf_there high some z =
-        let left : part_left end ≡ 512 - end % 512 = ap (λ t. if t then 384 - end else 512 - end % 512) (le-ltb end 384 high) in
-        true≢false (sym (blank_range (byte_of m c) (part_left end) end (λ p low lt.
-        let same : p / 512 ≡ end / 512 = omega arith in
-        ap (λ t. if t then slice_index (m c) (128 + p) else leaf_byte m (leaf_block m c (p / 512)) (p % 512)) (le-ltb p 384 (omega arith))
-        ∙ (ap (λ i. leaf_byte m (leaf_block m c i) (p % 512)) same ∙ ap (λ x. leaf_byte m x (p % 512)) z))) ∙ some)
+    leaf_there = leaf_past m c end
 
     in_leaf : 384 ≤ end → end < greatest_size → blank (bytes_past m c end) ≡ false →
         Ran T fs (blank_act (record { block = leaf_block m c (end / 512); offset = end % 512; behind = Some c }) ∷ []) old new (Ok tt) → Stay old new × Cleared new

@@ -1,13 +1,17 @@
 // Laws of inodes without links, and of blocks that nothing points to.
 
-ghost use Rattle.std.specs.Prelude.{◌≡◌, ◌≢◌, ◌<◌, ℕ, All, Bool, Contains, List, Ok, Result, true};
+ghost use Rattle.std.specs.Prelude.{◌≡◌, ◌≢◌, ◌+◌, ◌++◌, ◌<◌, ◌≤◌, ℕ, All, Bool, Contains, Err, List, Ok, Result, length, take, true};
 ghost use Rattle.xn_model.specs.Types.{Types};
 ghost use Rattle.xn_model.specs.Lives.{StoreState};
+ghost use Rattle.store_types.specs.declared.refusal.Refusal.{Refusal};
+ghost use Rattle.treefs_format.specs.Leaves.{greatest_size};
+ghost use Rattle.treefs_model.specs.Changes.{rewritten};
 ghost use Rattle.treefs_model.specs.declared.fault.Fault.{Fault};
+ghost use Rattle.treefs_model.specs.declared.fault.Fault.TheVariants.{Kernel};
 ghost use Rattle.treefs.specs.Reaping.{ReapDoes};
 ghost use Rattle.treefs.specs.Trimming.{GiveUpDoes};
 ghost use Rattle.treefs.specs.declared.volume.Volume.{Volume};
-ghost use Rattle.treefs_model.specs.Files.{Inode};
+ghost use Rattle.treefs_model.specs.Files.{Inode, bytes_in};
 ghost use Rattle.treefs_model.specs.Reading.{inode_of};
 ghost use Rattle.treefs_puts.specs.Writing.{WriteBegunDoes};
 ghost use Rattle.treefs_laws.specs.Begun.{IsBegun};
@@ -45,6 +49,19 @@ pub fn begun_writes_change_no_file()
     ensures { (T : Types) (old new : StoreState) (volume : Volume) (block at : ℕ) (bytes : List ℕ) (result : Result ℕ Fault) → IsOpen T old volume →
         IsUnnamed old volume block → All (λ b. b < 256) bytes → WriteBegunDoes T old new volume block at bytes result →
         IsOpen T new volume × (files_in new volume ≡ files_in old volume) × IsUnnamed new volume block }
+{}
+
+/// `write_begun` of an inode that was begun, from its end on, writes the first of the bytes behind those that it has, as many as it answers, and sets its times
+/// to the caller's. They end within the greatest size. Where it is refused, but for the store's own refusal, the inode says what it said.
+pub fn begun_writes_append_bytes()
+    ensures done { (T : Types) (old new : StoreState) (volume : Volume) (block : ℕ) (inode : Inode) (was bytes : List ℕ) (taken : ℕ) → IsOpen T old volume →
+        IsBegun old volume block inode → bytes_in inode.content ≡ Ok was → All (λ b. b < 256) bytes → 0 < length bytes →
+        WriteBegunDoes T old new volume block (length was) bytes (Ok taken) →
+        (0 < taken) × (taken ≤ length bytes) × (length was + taken ≤ greatest_size)
+        × IsBegun new volume block (rewritten volume.memory.clock (λ was. was ++ take taken bytes) inode) }
+    ensures refused { (T : Types) (old new : StoreState) (volume : Volume) (block at : ℕ) (inode : Inode) (bytes : List ℕ) (fault : Fault) →
+        IsOpen T old volume → IsBegun old volume block inode → All (λ b. b < 256) bytes → ((reason : Refusal) → fault ≢ Kernel reason) →
+        WriteBegunDoes T old new volume block at bytes (Err fault) → IsBegun new volume block inode }
 {}
 
 /// An inode that is read alike says what it said, whether it has a number or not.

@@ -17,6 +17,7 @@ mod Pieces
 mod Rewriting
 mod Written
 mod Begun
+mod Grown
 mod GivenUp
 mod Naming
 mod Put

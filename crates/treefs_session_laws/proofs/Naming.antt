@@ -1,5 +1,5 @@
 -- A session gives an inode that was begun its first name.
-use Rattle.std.proofs.Common.{◌≡◌, ◌≢◌, ◌⊎◌, ℕ, ◌<◌, Bool, true, false, List, None, Result, Ok, Err, ◌∙◌, inl, inr, subst}
+use Rattle.std.proofs.Common.{◌≡◌, ◌≢◌, ◌⊎◌, ℕ, ◌<◌, Bool, true, false, List, None, Result, Ok, Err, inl, inr, subst}
 use Rattle.std.specs.Prelude.{All}
 use Rattle.xn_model.specs.Lives.{StoreState}
 use Rattle.xn_model.specs.Types.{Types}
@@ -8,7 +8,6 @@ use Rattle.treefs_model.specs.Changes.{replaced}
 use Rattle.treefs_model.specs.Files.{Inode}
 use Rattle.treefs_model.specs.declared.fault.Fault.{Fault}
 use Rattle.treefs_model.specs.declared.fault.Fault.TheVariants.{Full, Kernel}
-use Rattle.treefs_lookup.specs.Readable.{readable}
 use Rattle.treefs.specs.Committing.{CommitDoes}
 use Rattle.treefs.specs.declared.volume.Volume.{Volume}
 use Rattle.treefs_laws.specs.Begun.{IsBegun}
@@ -18,6 +17,7 @@ use Rattle.treefs_laws.specs.Open.{IsOpen}
 use Rattle.treefs_laws.specs.Refusals.{IsOfStore, IsRefused}
 use Rattle.treefs_laws.specs.Space.{LacksSpace, LeavesFiles}
 use Rattle.treefs_laws.specs.Unnamed.{IsUnnamed}
+use Rattle.treefs_laws.proofs.ForCallers.{still_begun}
 use Rattle.treefs_session.specs.Freeing.{MakesFreely}
 use Rattle.treefs_session_laws.specs.Before.{IsAsBefore, IsAsBeforeButOrphans}
 use Rattle.treefs_session_laws.specs.Puts.{GetsName}
@@ -26,27 +26,6 @@ use Rattle.treefs_session_laws.proofs.Freed.{as_before, made_freely, unheld_then
 use Rattle.treefs_session_laws.proofs.Kept.{made_told}
 use Rattle.treefs_session_laws.proofs.Names.{full_before, not_of_store}
 use Rattle.treefs_session_laws.proofs.Tried.{IsAgain}
-
--- an inode that was begun is so still where it has no number and its block has its bytes
-pub still_begun : (old new : StoreState) (v v' : Volume) (block : ℕ) (inode : Inode) → IsBegun old v block inode → IsUnnamed new v' block →
-    readable new v'.tree.fs.number block ≡ readable old v.tree.fs.number block → IsBegun new v' block inode
-still_begun old new v v' block inode begun unnamed same = record {
-  fields = begun.fields;
-  head = begun.head;
-  of_kind = begun.of_kind;
-  bytes = same ∙ begun.bytes;
-  in_range = begun.in_range;
-  short = begun.short;
-  size = begun.size;
-  kind_is = begun.kind_is;
-  no_directory = begun.no_directory;
-  value = begun.value;
-  typed = unnamed.typed;
-  there = begun.there;
-  within = begun.within;
-  no_root = unnamed.no_root;
-  unled = unnamed.unled;
-}
 
 -- what a refused call says, but for what it answers
 pub refused_so : (s s' : StoreState) (v v' : Volume) (fault : Fault) (Answered : Type 0) → IsRefused s s' v v' fault Answered →
@@ -105,7 +84,7 @@ module _ (T : Types) (commits : AreCommits T) (held : List ℕ) (block d : ℕ) 
       let kept = before.unnamed block unnamed in
       let clock : last.1.memory.clock ≡ v.memory.clock = before.clock in
       let named = commits.named last.0 new last.1 v' block inode d name replace n before.is_open
-      (still_begun old last.0 v last.1 block inode begun kept.0 (kept.1).own) wide last.3 in
+      (still_begun old last.0 v last.1 block inode begun kept.0 kept.1) wide last.3 in
       (named.0, last.0, last.1, before, subst (λ t. GetsName (files_in last.0 last.1) (files_in new v') t d name replace n inode) clock named.1)
 
   -- one that the store doesn't refuse leaves a volume as before

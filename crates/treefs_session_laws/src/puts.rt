@@ -1,12 +1,13 @@
 // Laws of a session's puts and of their parts: an inode is begun, bytes are written into it, and it gets a name, or where it can't it is given up.
 
-ghost use Rattle.std.specs.Prelude.{◌≡◌, ◌≢◌, ◌<◌, ◌≤◌, ℕ, All, Bool, Err, List, Ok, Result, length};
+ghost use Rattle.std.specs.Prelude.{◌≡◌, ◌≢◌, ◌++◌, ◌<◌, ◌≤◌, ℕ, All, Bool, Err, List, Ok, Result, length};
 ghost use Rattle.xn_model.specs.Types.{Types};
 ghost use Rattle.xn_model.specs.Lives.{StoreState};
 ghost use Rattle.store_types.specs.declared.refusal.Refusal.{Refusal};
 ghost use Rattle.treefs_format.specs.declared.kind.Kind.{Kind};
 ghost use Rattle.treefs_format.specs.declared.kind.Kind.TheVariants as kinds;
-ghost use Rattle.treefs_model.specs.Files.{Files, Inode};
+ghost use Rattle.treefs_model.specs.Changes.{rewritten};
+ghost use Rattle.treefs_model.specs.Files.{Files, Inode, bytes_in};
 ghost use Rattle.treefs_model.specs.declared.fault.Fault.{Fault};
 ghost use Rattle.treefs_model.specs.declared.fault.Fault.TheVariants.{Kernel};
 ghost use Rattle.treefs.specs.Committing.{CommitDoes};
@@ -50,13 +51,18 @@ pub fn sessions_begin_an_inode()
 {}
 
 /// Bytes that a session writes into an inode that has no number change no file, whatever that answers, but that inodes without links that aren't held may be
-/// freed; and it has no number then.
+/// freed; and it has no number then. Where the inode was begun, and all of them are written from its end on, they stand behind its bytes, and its times are the
+/// caller's.
 pub fn sessions_write_begun_inodes()
-    ensures { (T : Types) (held : List ℕ) (old new : StoreState) (volume volume' : Volume) (block at : ℕ) (bytes : List ℕ) (result : Result (Unit {0}) Fault) →
-        IsOpen T old volume → IsUnnamed old volume block → All (λ b. b < 256) bytes →
+    ensures files { (T : Types) (held : List ℕ) (old new : StoreState) (volume volume' : Volume) (block at : ℕ) (bytes : List ℕ)
+        (result : Result (Unit {0}) Fault) → IsOpen T old volume → IsUnnamed old volume block → All (λ b. b < 256) bytes →
         WritesAll T held (Begun block at) bytes old new volume volume' result →
         IsOpen T new volume' × IsReaped (IsUnheld held) (files_in old volume) (files_in new volume') × (volume'.memory.clock ≡ volume.memory.clock)
         × IsUnnamed new volume' block }
+    ensures bytes { (T : Types) (held : List ℕ) (old new : StoreState) (volume volume' : Volume) (block : ℕ) (inode : Inode) (was bytes : List ℕ) →
+        IsOpen T old volume → IsBegun old volume block inode → bytes_in inode.content ≡ Ok was → All (λ b. b < 256) bytes → 0 < length bytes →
+        WritesAll T held (Begun block (length was)) bytes old new volume volume' (Ok tt) →
+        IsBegun new volume' block (rewritten volume.memory.clock (λ was. was ++ bytes) inode) }
 {}
 
 /// A session that gives up an inode that has no number changes no file, whatever it answers.
@@ -87,12 +93,12 @@ pub fn sessions_name_an_inode()
     give_up_changes_no_file();
 }
 
-/// A file or a symbolic link that a session puts, and whose bytes all stand in the inode, has a number that was free, its name, these bytes and attributes.
-/// Where it may replace, what had the name loses a link. Nothing else changes, but that inodes without links that aren't held may be freed.
-pub fn sessions_put_small_files()
+/// A file or a symbolic link that a session puts, of any length, has a number that was free, its name, these bytes and attributes. Where it may replace, what
+/// had the name loses a link. Nothing else changes, but that inodes without links that aren't held may be freed.
+pub fn sessions_put_files()
     ensures { (T : Types) (held : List ℕ) (put : Put) (old new : StoreState) (volume volume' : Volume) (n : ℕ) → IsOpen T old volume →
-        FitsAttributes put.attributes → put.kind ≢ kinds.Directory → All (λ b. b < 256) put.bytes.now → length put.bytes.now ≤ 384 →
-        All (λ b. b < 256) put.name.now → PutDoes T held put old new volume volume' (Ok n) →
+        FitsAttributes put.attributes → put.kind ≢ kinds.Directory → All (λ b. b < 256) put.bytes.now → All (λ b. b < 256) put.name.now →
+        PutDoes T held put old new volume volume' (Ok n) →
         IsOpen T new volume' × (files : Files) × IsReaped (IsUnheld held) (files_in old volume) files
         × GetsName files (files_in new volume') volume.memory.clock put.directory put.name.now put.replace n
         (new_inode volume.memory.clock put.attributes (new_content put.kind 0 put.bytes.now)) }

@@ -26,7 +26,7 @@ use Rattle.treefs_values.specs.Volumes.{IsVolume, IsWholeBlock}
 use Rattle.treefs_values.specs.Ways.{ArePointersApart, IsWay, block_numbered}
 use Rattle.treefs_values.proofs.EmptyBlocks.{empty_files, empty_names, empty_there, empty_volume, table_inodes}
 use Rattle.treefs_values.proofs.NewInodes.{bare_node}
-use Rattle.treefs_values.proofs.Pending.{AreNew, IsNew, IsOther, New, at_other, new_attached, new_kept, way_pointer}
+use Rattle.treefs_values.proofs.Pending.{AreNew, IsNew, IsOther, IsUnled, New, at_other, new_attached, new_kept, unled_attached, way_pointer}
 use Rattle.treefs_values.proofs.PointerSet.{holder_whole, pointer_set}
 use Rattle.treefs_values.proofs.Standing.{KeepsInodes, KeepsNames, inodes_stay, inodes_then, names_stay, names_then}
 use Rattle.treefs_values.proofs.Walks.{AreOf, IsAt, IsEdit, edit_is, still_apart}
@@ -120,6 +120,10 @@ module _ (T : Types) (fs node inode top : ℕ) (few : fs < 32) (tree : IsTree T 
     pub there : last_or_owner holder (blocks_in xs) ≢ 0
     pub zero : (o : ℕ) → More o → pointed (readable middle fs) (last_or_owner holder (blocks_in xs)) o ≡ 0
     pub said : readable middle fs (last_or_owner holder (blocks_in xs)) ≡ last_bytes (readable old fs holder) xs
+    pub types : kinds middle fs ≡ kinds old fs
+    pub others : (b : ℕ) → b ≢ holder → All (λ (x : New). x.block ≢ b) xs → readable middle fs b ≡ readable old fs b
+    pub unled : (b : ℕ) → All (λ (x : New). x.block ≢ b) xs → IsUnled node inode (kinds old fs) (readable old fs) b →
+        IsUnled node inode (kinds middle fs) (readable middle fs) b
 
   -- one of them
   module _ (q : List ℕ) (holder : ℕ) (k : Link) (x : New) (old s1 s2 : StoreState) (here : IsHere old) (holder_is : holder ≡ at old q) (some : holder ≢ 0)
@@ -228,6 +232,18 @@ module _ (T : Types) (fs node inode top : ℕ) (few : fs < 32) (tree : IsTree T 
         (new_attached node inode top (kinds old fs) (readable old fs) (readable s1 fs) y is (at old q) k.offset x.block set
         (λ same. at_other node inode top (kinds old fs) (readable old fs) v y is m l k.offset q way at_some (sym same)) ne))
 
+    one_types : kinds s2 fs ≡ kinds old fs
+    one_types = second.types ∙ first.types
+
+    one_others : (b : ℕ) → b ≢ holder → readable s2 fs b ≡ readable old fs b
+    one_others b ne = ap (λ c. c b) waited ∙ set'.changed b ne
+
+    one_unled : (b : ℕ) → x.block ≢ b → IsUnled node inode (kinds old fs) (readable old fs) b → IsUnled node inode (kinds s2 fs) (readable s2 fs) b
+    one_unled b other_b unled =
+        subst (λ t. IsUnled node inode t (readable s2 fs) b) (sym one_types)
+        (subst (λ c. IsUnled node inode (kinds old fs) c b) (sym waited)
+        (unled_attached node inode (kinds old fs) (readable old fs) (readable s1 fs) holder k.offset x.block set' b other_b unled))
+
   pub chained : (ks : List Link) (xs : List New) (q : List ℕ) (holder : ℕ) (rest : List Act) (old new : StoreState) → IsHere old → holder ≡ at old q → holder ≢ 0 →
       IsChain q ks → AreOf T fs node inode top few tree (chain_starts ks) xs → AreNew node inode (kinds old fs) (readable old fs) top xs →
       ((o : ℕ) → IsNext ks o → pointed (readable old fs) holder o ≡ 0) →
@@ -244,6 +260,9 @@ module _ (T : Types) (fs node inode top : ℕ) (few : fs < 32) (tree : IsTree T 
     there = some;
     zero = none_next;
     said = refl;
+    types = refl;
+    others = λ b ne apart_b. refl;
+    unled = λ b apart_b is. is;
   }
   chained [] (x ∷ xs) q holder rest old new here holder_is some chain of news none_next ran = absurd of
   chained (k ∷ ks) [] q holder rest old new here holder_is some chain of news none_next ran = absurd of
@@ -285,6 +304,15 @@ module _ (T : Types) (fs node inode top : ℕ) (few : fs < 32) (tree : IsTree T 
             there = later.there;
             zero = later.zero;
             said = later.said ∙ ap (λ b. last_bytes b xs) (said ∙ sym of.1);
+            types = later.types
+                ∙ one_types q holder k x old s1 s2 here holder_is some l chain.1 chain.2 chain.3 of.0 of.1 news.0 none first second;
+            others = λ b ne apart_b.
+                later.others b (λ same. All-head (λ (y : New). y.block ≢ b) x xs apart_b (sym same)) (All-tail (λ (y : New). y.block ≢ b) x xs apart_b)
+                ∙ one_others q holder k x old s1 s2 here holder_is some l chain.1 chain.2 chain.3 of.0 of.1 news.0 none first second b ne;
+            unled = λ b apart_b is.
+                later.unled b (All-tail (λ (y : New). y.block ≢ b) x xs apart_b)
+                (one_unled q holder k x old s1 s2 here holder_is some l chain.1 chain.2 chain.3 of.0 of.1 news.0 none first second b
+                (All-head (λ (y : New). y.block ≢ b) x xs apart_b) is);
           }
     ]
   ]

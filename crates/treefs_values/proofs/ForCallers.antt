@@ -16,16 +16,18 @@ pub use Rattle.treefs_values.proofs.LookUps.{inodes_found, numbers_found, number
 pub use Rattle.treefs_values.proofs.NamesEnd.{links_make, name_ended, name_led, same_size}
 pub use Rattle.treefs_values.proofs.Readings.{acts_read, kinds_are, may_read, readable_is}
 pub use Rattle.treefs_values.proofs.ManyChanges.{changes_keep, fields_changed, file_resized}
-pub use Rattle.treefs_values.proofs.NewInodes.{bare_inode, bare_node, inode_small, new_free, node_small}
+pub use Rattle.treefs_values.proofs.NewInodes.{bare_inode, bare_node, inode_small, new_free, new_value, node_small, way_none}
 pub use Rattle.treefs_values.proofs.PointerSet.{inode_offset, low_offset, pointer_attached}
 pub use Rattle.treefs_values.proofs.EmptyBlocks.{empty_attached}
 -- edits one after another
 pub use Rattle.treefs_values.proofs.Standing.{IsKeptInode, KeepsInodes, KeepsNames, inodes_stay, inodes_then}
+pub use Rattle.treefs_values.proofs.Numbering.{IsTold, new_told}
+pub use Rattle.treefs_values.proofs.Since.{IsRead, IsSince, above_read}
 pub use Rattle.treefs_values.proofs.Pending.{AreNew, IsNew, IsOther, New, all_front, new_kept, new_parts}
 pub use Rattle.treefs_values.proofs.Walks.{AreBegun, AreOf, IsAt, IsEdit, IsFineStart, begun_so, edit_is, of_long, of_parts, ran_parts}
 pub use Rattle.treefs_values.proofs.Chains.{blocks_in}
 pub use Rattle.treefs_values.proofs.Placing.{AreFree, IsBehind, IsDirectoryAt, IsOwn, IsPlace, directory_kept, directory_names, directory_stays, free_stays, made_behind, place_stays, placed_files, placed_here, placed_so}
-pub use Rattle.treefs_values.proofs.Placing.{rewritten_behind, rewritten_directory, rewritten_files, rewritten_here, rewritten_inode, rewritten_keeps, rewritten_ways}
+pub use Rattle.treefs_values.proofs.Placing.{rewritten_behind, rewritten_directory, rewritten_files, rewritten_here, rewritten_inode, rewritten_changed, rewritten_keeps, rewritten_points, rewritten_some, rewritten_ways}
 pub use Rattle.treefs_values.proofs.Tabled.{IsLeafed, IsTabled, leafed_so, tabled_so}
 pub use Rattle.treefs_values.proofs.Fielding.{fields_files, fields_here, fields_inode, fields_keep, fields_key, fields_numbered}
 pub use Rattle.treefs_values.proofs.FoundStill.{entry_still, found_still}

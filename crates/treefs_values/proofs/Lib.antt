@@ -32,6 +32,7 @@ pub mod Zeros
 pub mod NewInodes
 pub mod Pending
 pub mod Walks
+pub mod Since
 pub mod Chains
 pub mod Paths
 pub mod MissingPaths

@@ -14,6 +14,19 @@ use Rattle.treefs_values.specs.Ways.{IsWay, SamePointers, block_numbered}
 use Rattle.treefs_values.proofs.Elsewhere.{inode_numbered}
 use Rattle.treefs_values.proofs.Ways.{inode_pointer, node_pointer, steps_way}
 
+-- nothing points to a block
+abbrev pub IsUnled : ℕ → ℕ → (ℕ → ℕ) → (ℕ → List ℕ) → ℕ → Type 0
+IsUnled node inode type content b = (p o : ℕ) → IsTrue (has_pointer node inode (type p) o) → pointed content p o ≢ b
+
+pub unled_attached : (node inode : ℕ) (type : ℕ → ℕ) (old new : ℕ → List ℕ) (holder offset x : ℕ) → IsPointerSet node inode type old new holder offset x →
+    (b : ℕ) → x ≢ b → IsUnled node inode type old b → IsUnled node inode type new b
+unled_attached node inode type old new holder offset x set b other unled p o has = by (cases_eq p holder) (cases_eq o offset)
+  where
+    by : (p ≡ holder) ⊎ (p ≢ holder) → (o ≡ offset) ⊎ (o ≢ offset) → pointed new p o ≢ b
+    by (inr apart) any = λ same. unled p o has (sym (set.others p o has (inl apart)) ∙ same)
+    by (inl here) (inr apart) = λ same. unled p o has (sym (set.others p o has (inr apart)) ∙ same)
+    by (inl here) (inl at) = λ same. other (sym ((λ j. pointed new (here j) (at j)) ∙ set.now) ∙ same)
+
 -- a block with its type and its first bytes
 pub record New : Type 0 where
   pub block : ℕ

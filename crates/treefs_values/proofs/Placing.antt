@@ -264,8 +264,18 @@ module _ (T : Types) (fs node inode top : ℕ) (old : StoreState) (here : IsAt T
     keeps : SamePointers node inode (kinds old fs) content (readable new fs)
     keeps = subst (SamePointers node inode (kinds old fs) content) (sym reads') (put_in node inode top (kinds old fs) content v d at.number some k few is_directory full').keeps
 
+    pub rewritten_points : SamePointers node inode (kinds old fs) content (readable new fs)
+    rewritten_points = keeps
+
     changed : IsChangedAt (bucket_block content c' k) content (readable new fs)
     changed = subst (IsChangedAt (bucket_block content c' k) content) (sym reads') (put_in node inode top (kinds old fs) content v d at.number some k few is_directory full').changed
+
+    pub rewritten_changed : IsChangedAt (bucket_block content c k) content (readable new fs)
+    rewritten_changed = subst (λ x. IsChangedAt (bucket_block content x k) content (readable new fs)) at.block changed
+
+    pub rewritten_some : bucket_block content c k ≢ 0
+    rewritten_some z = (put_in node inode top (kinds old fs) content v d at.number some k few is_directory full').some
+        (ap (λ x. bucket_block content x k) at.block ∙ z)
 
     pub rewritten_directory : IsDirectoryAt (readable new fs) top d c key
     rewritten_directory =

@@ -5,27 +5,22 @@ use Rattle.std.proofs.lemmas.List.{get_or_at, take_at}
 use Rattle.xn_model.specs.Types.{Types}
 use Rattle.xn_model.specs.BareDisks.{zeros}
 use Rattle.xn_model.specs.Lives.{StoreState}
-use Rattle.treefs_format.specs.Fields.{AreInRange}
-use Rattle.treefs_format.specs.Inodes.{inode_bytes, kind_of}
 use Rattle.treefs_format.specs.Paths.{leaf_count, steps}
 use Rattle.treefs_format.specs.Templates.{IsTree}
-use Rattle.treefs_format.specs.declared.fields.Fields.{Fields}
-use Rattle.treefs_format.specs.declared.kind.Kind.{Kind}
-use Rattle.treefs_format.specs.declared.kind.Kind.TheVariants as kind
 use Rattle.treefs_model.specs.Acts.{Act, Ran, attach_act}
-use Rattle.treefs_model.specs.Files.{with_inode}
-use Rattle.treefs_model.specs.Reading.{block_at, files_of, inode_with, leaf_block, pointed}
+use Rattle.treefs_model.specs.Files.{Inode, with_inode}
+use Rattle.treefs_model.specs.Reading.{block_at, files_of, leaf_block, pointed}
 use Rattle.treefs_lookup.specs.Readable.{readable}
 use Rattle.treefs_lookup.specs.Walks.{reach}
 use Rattle.treefs_edits.specs.Missing.{last_or_owner, missing_path, node_acts, node_starts, path_acts, path_starts}
-use Rattle.treefs_values.specs.Attached.{new_content}
 use Rattle.treefs_values.specs.Kinds.{kinds}
 use Rattle.treefs_values.specs.Ways.{IsWay, block_numbered}
 use Rattle.treefs_values.proofs.Chains.{IsChain, IsNext, blocks_in, chain_starts, chained, last_bytes, reached, way_stands}
-use Rattle.treefs_values.proofs.Numbering.{numbered_files, numbered_here, numbered_inodes, numbered_keeps, numbered_was}
+use Rattle.treefs_values.proofs.Numbering.{IsTold, numbered_files, numbered_here, numbered_inodes, numbered_keeps, numbered_was}
 use Rattle.treefs_values.proofs.MissingPaths.{IsPathTo, path_to}
 use Rattle.treefs_values.proofs.Paths.{node_acts_are, node_links, node_reached, node_starts_are, onto, path_acts_are, path_links, path_reached, path_starts_are, way_first}
 use Rattle.treefs_values.proofs.Pending.{AreNew, IsNew, IsOther, New}
+use Rattle.treefs_values.proofs.Since.{IsRead, IsSince, above_read}
 use Rattle.treefs_values.proofs.Standing.{KeepsInodes, KeepsNames, inodes_then}
 use Rattle.treefs_values.proofs.Walks.{AreOf, IsAt, edit_is}
 use Rattle.treefs_values.proofs.Ways.{steps_way}
@@ -64,9 +59,7 @@ module _ (T : Types) (fs node inode top : ℕ) (few : fs < 32) (tree : IsTree T 
   -- The table: its nodes, and then the inode
 
   module _ (old plan : StoreState) (here : IsHere old) (ways : (l : ℕ) (os : List ℕ) → IsWay os l → block_at (readable old fs) top os ≡ block_at (readable plan fs) top os)
-      (n : ℕ) (number : n ≢ 0) (n_few : n - 1 < leaf_count) (free : leaf_block (readable plan fs) top (n - 1) ≡ 0)
-      (fields : Fields) (head : List ℕ) (range : AreInRange fields) (short : length head ≤ 384) (size : fields.size ≡ length head)
-      (k : Kind) (kind_is : kind_of fields.mode ≡ Some k) (empty : k ≡ kind.Directory → head ≡ []) where
+      (n : ℕ) (number : n ≢ 0) (n_few : n - 1 < leaf_count) (free : leaf_block (readable plan fs) top (n - 1) ≡ 0) (value : Inode) where
     abbrev missing : ℕ
     missing = (reach (readable plan fs) top (steps (n - 1))).missing
 
@@ -79,21 +72,37 @@ module _ (T : Types) (fs node inode top : ℕ) (few : fs < 32) (tree : IsTree T 
     abbrev nodes_of : List ℕ
     nodes_of = take (missing - 1) path
 
-    pub record IsTabled (xs : List New) (y : New) (rest : List Act) (new : StoreState) : Type 0 where
+    pub record IsTabled (xs : List New) (y : ℕ) (rest : List Act) (new : StoreState) : Type 0 where
       pub middle : StoreState
       pub tabled : IsHere middle
       pub ran : Ran T fs rest middle new (Ok tt)
       pub was : files_of (readable old fs) top n ≡ None
-      pub files : files_of (readable middle fs) top ≡ with_inode (files_of (readable old fs) top) n (Some (inode_with fields (new_content k fields.parent head)))
-      pub keeps : (x : New) → IsNew node inode (kinds old fs) (readable old fs) top x → All (λ z. IsOther z x) xs → IsOther y x →
+      pub files : files_of (readable middle fs) top ≡ with_inode (files_of (readable old fs) top) n (Some value)
+      pub keeps : (x : New) → IsNew node inode (kinds old fs) (readable old fs) top x → All (λ z. IsOther z x) xs → x.block ≢ y →
           IsNew node inode (kinds middle fs) (readable middle fs) top x
       pub inodes : KeepsInodes (readable old fs) (readable middle fs) top
 
-    module _ (xs : List New) (y : New) (of : AreOf T fs node inode top few tree (node_starts node inode nodes_of) xs)
-        (news : AreNew node inode (kinds old fs) (readable old fs) top xs) (new_y : IsNew node inode (kinds old fs) (readable old fs) top y) (others : All (λ z. IsOther z y) xs)
-        (y_type : y.ty ≡ inode) (y_bytes : y.bytes ≡ inode_bytes fields head) (rest : List Act) (new : StoreState) where
+    -- y: the block of the inode, of which this is told whatever nodes were attached
+    module _ (xs : List New) (y : ℕ) (of : AreOf T fs node inode top few tree (node_starts node inode nodes_of) xs)
+        (news : AreNew node inode (kinds old fs) (readable old fs) top xs)
+        (told : (s : StoreState) → IsSince T fs node inode top xs old s → (h : ℕ) → IsRead (readable s fs) top h →
+        IsTold node inode (kinds s fs) (readable s fs) top h y value) (rest : List Act) (new : StoreState) where
       abbrev acts_by : List ℕ → ℕ → List Act
-      acts_by nodes last = node_acts node inode owner nodes (blocks_in xs) ++ attach_act (last_or_owner owner (blocks_in xs)) last inode (y.block ∷ []) (Some y.block) ∷ rest
+      acts_by nodes last = node_acts node inode owner nodes (blocks_in xs) ++ attach_act (last_or_owner owner (blocks_in xs)) last inode (y ∷ []) (Some y) ∷ rest
+
+      -- the block that they hang from
+      owner_read : (l0 : ℕ) (q nodes : List ℕ) → IsPathTo (readable old fs) (readable plan fs) top here.volume.root ways (n - 1) n_few free l0 q nodes →
+          IsWay (l0 ∷ onto q nodes) 0 → IsRead (readable old fs) top (block_at (readable old fs) top q)
+      owner_read l0 q nodes p way = by nodes way
+        where
+          there : block_at (readable old fs) top q ≢ 0
+          there z = p.there (p.holder ∙ z)
+
+          by : (nodes : List ℕ) → IsWay (l0 ∷ onto q nodes) 0 → IsRead (readable old fs) top (block_at (readable old fs) top q)
+          by [] way = above_read (readable old fs) top l0 0 q way there
+          by (o ∷ os) way =
+              let first = way_first o 1 q os (way_up 0 l0 (way_stands l0 0 (onto q (o ∷ os)) way) o q os way) in
+              above_read (readable old fs) top o first.0 q first.1 there
 
       tabled_by : (l0 : ℕ) (q nodes : List ℕ) →
           IsPathTo (readable old fs) (readable plan fs) top here.volume.root ways (n - 1) n_few free l0 q nodes →
@@ -102,7 +111,7 @@ module _ (T : Types) (fs node inode top : ℕ) (few : fs < 32) (tree : IsTree T 
           let way : IsWay (l0 ∷ onto q nodes) 0 = subst (λ os. IsWay os 0) p.steps_are (steps_way (n - 1)) in
           let stands = way_stands l0 0 (onto q nodes) way in
           let links = node_links node inode nodes in
-          let last_act : Act = attach_act (last_or_owner owner (blocks_in xs)) l0 inode (y.block ∷ []) (Some y.block) in
+          let last_act : Act = attach_act (last_or_owner owner (blocks_in xs)) l0 inode (y ∷ []) (Some y) in
           let c = chained T fs node inode top few tree 0 (IsLater 0 l0 stands) (later_stands 0 l0 stands) links xs q owner (last_act ∷ rest) old new here p.holder p.there
           (node_chain 0 l0 stands q nodes way)
           (subst (λ starts. AreOf T fs node inode top few tree starts xs) (node_starts_are node inode nodes) of') news
@@ -119,25 +128,31 @@ module _ (T : Types) (fs node inode top : ℕ) (few : fs < 32) (tree : IsTree T 
                 let q' : List ℕ = onto q nodes in
                 let holder = last_or_owner owner (blocks_in xs) in
                 let holder_is : holder ≡ block_at (readable c.middle fs) top q' = c.last ∙ ap (block_at (readable c.middle fs) top) (node_reached node inode q nodes) in
-                let y' = c.keeps y new_y others in
                 let none = c.zero l0 refl in
+                let since : IsSince T fs node inode top xs old c.middle = record {
+                  here = c.here;
+                  types = c.types;
+                  others = λ b unread apart. c.others b (λ same. unread (subst (IsRead (readable old fs) top) (sym p.holder ∙ sym same) (owner_read l0 q nodes p way))) apart;
+                  unled = c.unled;
+                  keeps = c.keeps;
+                } in
+                let there : block_at (readable c.middle fs) top q' ≢ 0 = λ z. c.there (holder_is ∙ z) in
+                let t = told c.middle since holder (subst (IsRead (readable c.middle fs) top) (sym holder_is) (above_read (readable c.middle fs) top l0 0 q' way there)) in
                 record {
                   middle = s1;
-                  tabled = numbered_here T fs node inode top few tree c.middle s1 c.here n number n_few l0 q' p.steps_are holder holder_is c.there none y y' y_type (Some y.block) edit
-                      fields head y_bytes range short size k kind_is empty;
+                  tabled = numbered_here T fs node inode top few tree c.middle s1 c.here n number n_few l0 q' p.steps_are holder holder_is c.there none y value t (Some y)
+                      edit;
                   ran = r.3;
                   was = ap (λ f. f n) (sym c.files)
-                      ∙ numbered_was T fs node inode top few tree c.middle s1 c.here n number n_few l0 q' p.steps_are holder holder_is c.there none y y' y_type (Some y.block) edit
-                      fields head y_bytes range short size k kind_is empty;
-                  files = numbered_files T fs node inode top few tree c.middle s1 c.here n number n_few l0 q' p.steps_are holder holder_is c.there none y y' y_type (Some y.block) edit
-                      fields head y_bytes range short size k kind_is empty
-                      ∙ ap (λ f. with_inode f n (Some (inode_with fields (new_content k fields.parent head)))) c.files;
+                      ∙ numbered_was T fs node inode top few tree c.middle s1 c.here n number n_few l0 q' p.steps_are holder holder_is c.there none y value t (Some y) edit;
+                  files = numbered_files T fs node inode top few tree c.middle s1 c.here n number n_few l0 q' p.steps_are holder holder_is c.there none y value t
+                      (Some y) edit ∙ ap (λ f. with_inode f n (Some value)) c.files;
                   keeps = λ x is apart ne.
-                      numbered_keeps T fs node inode top few tree c.middle s1 c.here n number n_few l0 q' p.steps_are holder holder_is c.there none y y' y_type (Some y.block) edit
-                      fields head y_bytes range short size k kind_is empty x (c.keeps x is apart) ne;
+                      numbered_keeps T fs node inode top few tree c.middle s1 c.here n number n_few l0 q' p.steps_are holder holder_is c.there none y value t (Some y)
+                      edit x (c.keeps x is apart) ne;
                   inodes = inodes_then (readable old fs) (readable c.middle fs) (readable s1 fs) top (c.inodes refl)
-                      (numbered_inodes T fs node inode top few tree c.middle s1 c.here n number n_few l0 q' p.steps_are holder holder_is c.there none y y' y_type (Some y.block) edit
-                      fields head y_bytes range short size k kind_is empty);
+                      (numbered_inodes T fs node inode top few tree c.middle s1 c.here n number n_few l0 q' p.steps_are holder holder_is c.there none y value t (Some y)
+                      edit);
                 }
           ]
 

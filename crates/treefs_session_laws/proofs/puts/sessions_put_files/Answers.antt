@@ -3,10 +3,10 @@ use Rattle.std.proofs.lemmas.List.{length-take}
 use Rattle.std.proofs.lemmas.List.Elements.{All-take}
 use Rattle.treefs_session_laws.proofs.Naming.{AreCommits, commit_named, commit_refused}
 use Rattle.treefs_session_laws.proofs.Put.{AreBegins, is_put}
-use Rattle.treefs_session_laws.proofs.puts.sessions_put_small_files.Goals as goal
+use Rattle.treefs_session_laws.proofs.puts.sessions_put_files.Goals as goal
 
 pub returns : goal.returns
-returns c = λ T held put old new volume volume' n is_open fit file wide small name_wide does.
+returns c = λ T held put old new volume volume' n is_open fit file wide name_wide does.
     let commits : AreCommits T = record {
       refused = λ s s' v v' block d name replace fault does. commit_refused T s s' v v' block d name fault _ _
           (λ does. c.refused_commit_answers_the_files.ensures.named T s s' v v' block d name fault does)
@@ -26,4 +26,4 @@ returns c = λ T held put old new volume volume' n is_open fit file wide small n
           c.begun_writes_change_no_file.ensures T s s' v b at bytes result is_open unnamed wide does;
       gives = λ b s s' v result is_open unnamed does. c.give_up_changes_no_file.ensures.given T s s' v b result is_open unnamed does;
     } in
-    is_put T commits held put laws file wide small name_wide old new volume volume' n is_open does
+    is_put T commits held put laws file wide name_wide old new volume volume' n is_open does
