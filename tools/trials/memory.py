@@ -9,8 +9,11 @@ time, but for how many values there was no memory at once: none in a run that me
 Then it refuses every request of that program from the first one on that comes behind its line on calls that take no memory: none may come, and
 these calls have to do what they should.
 
-Last it runs the program `random_calls` on its disk whose groups of places come and go, with each request refused in turn: no answer may be another than
+Then it runs the program `random_calls` on its disk whose groups of places come and go, with each request refused in turn: no answer may be another than
 what scans of a plain record say, in which a call that found no memory has done nothing; or the program itself ends for want of memory.
+
+Last it makes each call of the trial `pairs` by `treefs_runs --tell` with each of its requests refused in turn. It answers as it does without, or that there was
+no memory, and then each image that a crash may leave of what it edited is as that trial has it. Or the program itself ends for want of memory.
 
 Requests are refused by a library of a few lines in C that is loaded before the C library. So a C compiler has to be there.
 """
@@ -21,6 +24,7 @@ import re
 import tempfile
 
 from made_from import TOP
+from trials import pairs
 from trials.programs import built_library, demand, program, read, write
 from trials.scripts import BLOCKS, CHAIN, program_runs, reference, rows
 from trials.tally import Tally
@@ -56,7 +60,7 @@ void *realloc(void *old, size_t size) { return is_refused() ? NULL : __libc_real
 """ % (TOLD, len(TOLD) + 1)
 NAMED_ERRORS = re.compile(r"no memory|cannot (read|write) \w+")
 NAMED_FAULTS = re.compile(r"fault 1 NoMemory|template \d+: NoMemory|((owns|size) )?(line \d+: NoMemory|refused NoMemory at \d+)")
-NO_MEMORY = "refused 1 NoMemory"
+NO_MEMORY, TREES_NO_MEMORY = "refused 1 NoMemory", "= Kernel 1 NoMemory"
 TAKE_MEMORY = ("init", "edit", "root", "unroot", "install")
 
 
@@ -202,6 +206,35 @@ class Refusals:
             if not ended.is_refused:
                 return
 
+    def told(self, calls, number):
+        """What calls of a file system of trees print behind those that make the volume, with a request refused; and the lines of these."""
+        write(self.folder, "calls", "".join(f"{line}\n" for line in [*pairs.SETUP, *calls]).encode())
+        ended = Ended(["--tell", "calls"], self.folder, self.library, number, path=pairs.TREEFS_RUNS)
+        at = len(ended.out) - ended.out[::-1].index(pairs.SETUP[-1]) + 1 if pairs.SETUP[-1] in ended.out else len(ended.out)
+        return ended, ended.out[:at], ended.out[at:]
+
+    def trees(self):
+        """Refuses each request in turn of each call of a file system of trees."""
+        _, setup, _ = self.told([], 0)
+        image, base, top = pairs.made(self.folder, setup)
+        first = next(number for number in itertools.count(1) if not self.told([], 64 * number)[0].is_refused) * 64 - 64
+        for call in pairs.CALLS:
+            _, _, right = self.told([call], 0)
+            for number in itertools.count(first):
+                ended, before, lines = self.told([call], number)
+                if not ended.is_refused:
+                    break
+                if before == setup:
+                    self.note(f"{call}, request {number}", ended, self.is_call_right(ended, lines, right, (image, base, top)))
+
+    @staticmethod
+    def is_call_right(ended, lines, right, volume):
+        """Whether a call that met a refusal went as it may."""
+        if ended.status != 0:
+            return (ended.status, ended.err) == (1, [NONE_LEFT])
+        edits = [line for line in lines if line.startswith("  ")]
+        return lines == right or lines[-1] == TREES_NO_MEMORY and not pairs.look_at(*volume, ("", edits))[1]
+
     def spare_calls(self, path, right, above):
         """Refuses every request of the program from the first one on that isn't made before its line on calls that take no memory."""
 
@@ -240,4 +273,5 @@ def play():
             refusals.line(*given)
         refusals.calls()
         refusals.groups()
+        refusals.trees()
     return refusals.tally
