@@ -300,8 +300,8 @@ BODIES = {
     ),
     "files_below_a_target_followed": Body(
         TREE_GETS + "leaving.rt", ["xnfs"],
-        "            _ => self.bring_file(node, path, target, Links::Refused),",
-        "            _ => self.bring_file(node, path, target, Links::Followed),",
+        "                    links: Links::Refused,\n",
+        "                    links: Links::Followed,\n",
         ["get_of_a_folder_replaces_no_file_that_a_link_leads_to"],
     ),
     "folders_below_a_target_followed": Body(
@@ -321,7 +321,19 @@ BODIES = {
         TREE_GETS + "leaving.rt", ["xnfs"],
         "        if self.keeps_attributes {\n",
         "        if self.keeps_attributes && node.is_folder() {\n",
-        ["get_gives_a_file_the_mode_and_the_time_that_it_has_in_the_volume"],
+        ["get_gives_a_new_file_the_mode_and_the_time_that_it_has_in_the_volume"],
+    ),
+    "replaced_file_gets_the_mode_of_the_volume": Body(
+        TREE_GETS + "leaving.rt", ["xnfs"],
+        "            Ok(there) if goal.keeps_owner && there.kind == Kind::File => Some(Settings {\n",
+        "            Ok(there) if goal.keeps_owner && there.kind == Kind::Other => Some(Settings {\n",
+        ["a_file_that_get_replaces_keeps_its_mode_and_its_owner"],
+    ),
+    "file_below_a_folder_keeps_the_mode_that_it_replaces": Body(
+        TREE_GETS + "tree_out.rt", ["xnfs"],
+        "path, target.as_str(), false)?,\n        NodeKind::SymbolicLink",
+        "path, target.as_str(), true)?,\n        NodeKind::SymbolicLink",
+        ["a_folder_that_get_fills_is_as_in_the_volume"],
     ),
     "copy_with_holes_named_first": Body(
         TREE_CHANGES + "copies.rt", ["xnfs"],

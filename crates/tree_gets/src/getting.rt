@@ -1,6 +1,6 @@
 // The word `get`: files and folders of a volume that are brought out.
 
-use crate::leaving::Leaving;
+use crate::leaving::{Goal, Leaving};
 use crate::tree_out::{fill_folder, make_folder, make_target, told_name};
 use host_trees::{Filler, Host, Kind, PlainSink, joined};
 use std::alloc::Global;
@@ -64,7 +64,7 @@ fn bring_into<V: View, H: Host>(
             make_folder(leaving, target.as_str())?;
             fill_folder(leaving, path.as_bytes(), node, target.as_str(), true)
         }
-        _ => leaving.bring_file_below(node, path.as_bytes(), target.as_str()),
+        _ => leaving.bring_file_below(node, path.as_bytes(), target.as_str(), true),
     }
 }
 
@@ -80,7 +80,14 @@ fn bring_to<V: View, H: Host>(
     }
     match leaving.host.attributes_through(target) {
         Ok(there) if there.kind == Kind::Folder => bring_into(leaving, (path, node), target),
-        _ => leaving.bring_file(node, path.as_bytes(), target, Links::Followed),
+        _ => {
+            let goal = Goal {
+                target,
+                links: Links::Followed,
+                keeps_owner: true,
+            };
+            leaving.bring_file(node, path.as_bytes(), goal)
+        }
     }
 }
 
@@ -110,8 +117,9 @@ fn want_folder<H: Host>(host: &H, alloc: Global, target: &str) -> Result<(), Fau
     }
 }
 
-/// `get`: brings files out, and folders with all below them; `-` is standard output. A file takes the place of one that is there, and goes into a folder under
-/// its own name. One folder fills its target; where there are several paths the target has to be a folder, and each goes into it under its own name.
+/// `get`: brings files out, and folders with all below them; `-` is standard output. A file takes the place of one that is there, with the permissions and the
+/// owner of that one, and goes into a folder under its own name. One folder fills its target, where each file has what it has in the volume; where there are
+/// several paths the target has to be a folder, and each goes into it under its own name.
 pub fn get<V: View, H: Host>(
     view: &V,
     alloc: Global,

@@ -9,6 +9,16 @@ use std::str;
 use system_files::{Links, WriteFault};
 use tree_lines::{Fault, Node, Reason, Told, View, at, at_bytes, not_written, system};
 
+/// Where a file is brought to.
+#[derive(Clone, Copy, Debug)]
+pub struct Goal<'g> {
+    /// A path of the system.
+    pub target: &'g str,
+    pub links: Links,
+    /// Whether permissions and owner of a file that is there stay, while it gets other bytes and another time.
+    pub keeps_owner: bool,
+}
+
 /// What a line that brings files out keeps.
 pub struct Leaving<'v, V: View, H: Host> {
     pub view: &'v V,
@@ -117,17 +127,31 @@ impl<'v, V: View, H: Host> Leaving<'v, V, H> {
         }
     }
 
+    /// What is set of a file that is brought to a goal.
+    fn settings_at(&self, node: &Node, goal: Goal) -> Option<Settings> {
+        let settings = self.settings_of(node)?;
+        match self.host.attributes_through(goal.target) {
+            Ok(there) if goal.keeps_owner && there.kind == Kind::File => Some(Settings {
+                permissions: there.permissions,
+                uid: there.uid,
+                gid: there.gid,
+                modified: settings.modified,
+            }),
+            _ => Some(settings),
+        }
+    }
+
     /// Writes a file of the system that has the bytes of one of the volume.
-    fn write(&mut self, node: &Node, path: &[u8], target: &str, links: Links) -> Result<(), Fault> {
+    fn write(&mut self, node: &Node, path: &[u8], goal: Goal) -> Result<(), Fault> {
         let (alloc, host) = (self.alloc, self.host);
-        let settings = self.settings_of(node);
+        let settings = self.settings_at(node, goal);
         let mut outgoing = self.outgoing(node);
-        let done = host.write_file(target, links, settings.as_ref(), &mut outgoing);
+        let done = host.write_file(goal.target, goal.links, settings.as_ref(), &mut outgoing);
         let fault = outgoing.fault;
         match (fault, done) {
             (Some(reason), _) => Err(at_bytes(alloc, path, reason)),
             (None, Ok(())) => Ok(()),
-            (None, Err(fault)) => Err(not_written(alloc, target.as_bytes(), fault)),
+            (None, Err(fault)) => Err(not_written(alloc, goal.target.as_bytes(), fault)),
         }
     }
 
@@ -170,58 +194,54 @@ impl<'v, V: View, H: Host> Leaving<'v, V, H> {
     }
 
     /// Brings a file out that has several names.
-    fn bring_linked(
-        &mut self,
-        node: &Node,
-        path: &[u8],
-        target: &str,
-        links: Links,
-    ) -> Result<(), Fault> {
+    fn bring_linked(&mut self, node: &Node, path: &[u8], goal: Goal) -> Result<(), Fault> {
         let alloc = self.alloc;
         let old = match self.linked.get(&node.number) {
             Some(old) => Some(String::from_str(alloc, old.as_str())?),
             None => None,
         };
         if let Some(old) = old
-            && self.link(old.as_str(), target)?
+            && self.link(old.as_str(), goal.target)?
         {
             return Ok(());
         }
-        self.write(node, path, target, links)?;
-        self.note(node, target)?;
+        self.write(node, path, goal)?;
+        self.note(node, goal.target)?;
         Ok(())
     }
 
     /// Brings a file out to a path of the system; one that is there is replaced as a whole.
-    pub fn bring_file(
-        &mut self,
-        node: &Node,
-        path: &[u8],
-        target: &str,
-        links: Links,
-    ) -> Result<(), Fault> {
-        self.forget(target);
+    pub fn bring_file(&mut self, node: &Node, path: &[u8], goal: Goal) -> Result<(), Fault> {
+        self.forget(goal.target);
         if node.links > 1 {
-            self.bring_linked(node, path, target, links)?;
+            self.bring_linked(node, path, goal)?;
         } else {
-            self.write(node, path, target, links)?;
+            self.write(node, path, goal)?;
         }
         self.progress.add_file(self.host, self.alloc);
         Ok(())
     }
 
-    /// The same below a folder that is filled: a device or the like that is there stays as it is.
+    /// The same below a folder: a link, a device or the like that is there stays as it is.
     pub fn bring_file_below(
         &mut self,
         node: &Node,
         path: &[u8],
         target: &str,
+        keeps_owner: bool,
     ) -> Result<(), Fault> {
         match self.attributes_at(target)? {
             Some(there) if there.kind == Kind::Other => {
                 Err(at(self.alloc, target, Reason::Special))
             }
-            _ => self.bring_file(node, path, target, Links::Refused),
+            _ => {
+                let goal = Goal {
+                    target,
+                    links: Links::Refused,
+                    keeps_owner,
+                };
+                self.bring_file(node, path, goal)
+            }
         }
     }
 

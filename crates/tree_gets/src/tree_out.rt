@@ -118,7 +118,7 @@ fn bring_step<V: View, H: Host>(
     let name = told_name(leaving, path, (Some(step.folder), &step.name))?;
     let target = joined(leaving.alloc, folder, name.as_str())?;
     match step.node.kind {
-        NodeKind::File => leaving.bring_file_below(&step.node, path, target.as_str())?,
+        NodeKind::File => leaving.bring_file_below(&step.node, path, target.as_str(), false)?,
         NodeKind::SymbolicLink => leaving.bring_link(&step.node, path, target.as_str())?,
         NodeKind::Directory => {
             make_folder(leaving, target.as_str())?;

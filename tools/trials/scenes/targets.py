@@ -46,17 +46,49 @@ def failed_get_removes_nothing():
 
 
 @scene
-def get_gives_a_file_the_mode_and_the_time_that_it_has_in_the_volume():
+def get_gives_a_new_file_the_mode_and_the_time_that_it_has_in_the_volume():
     write("source", b"new bytes")
     os.chmod("source", 0o640)
     os.utime("source", ns=(0, 1_234_567_890_123_456_789))
     fresh()
     run(XNFS, "d.img", "put", "source", "/a", status=0)
-    write("t", b"old")
-    os.chmod("t", 0o600)
     run(XNFS, "d.img", "get", "/a", "t", status=0)
     seen = os.stat("t")
     want((seen.st_mode & 0o7777, seen.st_mtime_ns) == (0o640, 1_234_567_890_123_456_789), f"mode {seen.st_mode:o}, time {seen.st_mtime_ns}")
+
+
+@scene
+def a_file_that_get_replaces_keeps_its_mode_and_its_owner():
+    """Where the file is named itself, as TARGET, through a link, or in a folder; it has the bytes and the time from the volume."""
+    fresh(a=b"new bytes", b=b"other bytes")
+    run(XNFS, "d.img", "touch", "-d", "1000000000", "/a", "/b", status=0)
+    os.mkdir("into")
+    os.symlink("into/a", "link")
+    for target, sources in (("t", ["/a"]), ("link", ["/a"]), ("into", ["/a"]), ("into", ["/a", "/b"])):
+        path = "t" if target == "t" else "into/a"
+        write(path, b"old")
+        os.chown(path, 7, 8)
+        os.chmod(path, 0o604)
+        run(XNFS, "d.img", "get", *sources, target, status=0)
+        seen = os.stat(path)
+        found = seen.st_mode & 0o7777, seen.st_uid, seen.st_gid, seen.st_mtime
+        want(found == (0o604, 7, 8, 10**9), f"get of {sources} to {target}: mode {found[0]:o}, owner {found[1]}:{found[2]}, time {found[3]}")
+        want(read(path) == b"new bytes", f"get of {sources} to {target}: the bytes are {read(path)!r}")
+    want(os.path.islink("link"), "a link as target was replaced")
+
+
+@scene
+def a_folder_that_get_fills_is_as_in_the_volume():
+    """What is there below the target gets the mode and the owner that it has in the volume."""
+    fresh()
+    write("source", b"new bytes")
+    run(XNFS, "d.img", "shell", stdin=b"mkdir /top\nput source /top/f\nchmod 640 /top/f\nchown 7:8 /top/f\n", status=0)
+    os.makedirs("out")
+    write("out/f", b"old")
+    os.chmod("out/f", 0o604)
+    run(XNFS, "d.img", "get", "/top", "out", status=0)
+    seen = os.stat("out/f")
+    want((seen.st_mode & 0o7777, seen.st_uid, seen.st_gid) == (0o640, 7, 8), f"mode {seen.st_mode:o}, owner {seen.st_uid}:{seen.st_gid}")
 
 
 @scene
@@ -71,14 +103,30 @@ def what_get_makes_is_secret_until_it_has_its_mode():
 
 @scene
 def what_get_writes_never_has_the_mode_of_the_file_that_it_replaces():
-    fresh(a=b"secret")
-    run(XNFS, "d.img", "chmod", "600", "/a", status=0)
-    write("t", b"old")
-    os.chmod("t", 0o644)
-    told = run("strace", "-f", "-e", "trace=openat,chmod,fchmod,fchmodat,rename", XNFS, "d.img", "get", "/a", "t", status=0).stderr.decode().splitlines()
+    """Below a folder, where each file has the mode of the volume: a secret one in the place of one that all may read."""
+    fresh()
+    write("source", b"secret")
+    run(XNFS, "d.img", "shell", stdin=b"mkdir /top\nput source /top/f\nchmod 600 /top/f\n", status=0)
+    os.makedirs("out")
+    write("out/f", b"old")
+    os.chmod("out/f", 0o644)
+    told = run("strace", "-f", "-e", "trace=openat,chmod,fchmod,fchmodat,rename", XNFS, "d.img", "get", "/top", "out", status=0).stderr.decode().splitlines()
     first = next(place for place, it in enumerate(told) if "O_EXCL" in it)
     modes = [it for it in told[first:] if "chmod" in it or "O_EXCL" in it]
     want(all(", 0600" in it for it in modes), f"a file that is to have mode 600 in the place of one of mode 644: {modes}")
+    want(stat.S_IMODE(os.stat("out/f").st_mode) == 0o600, f"mode {os.stat('out/f').st_mode:o}")
+
+
+@scene
+def what_get_writes_in_the_place_of_a_secret_file_is_secret_at_each_moment():
+    fresh(a=b"bytes")
+    run(XNFS, "d.img", "chmod", "644", "/a", status=0)
+    write("t", b"old")
+    os.chmod("t", 0o600)
+    told = run("strace", "-f", "-e", "trace=openat,chmod,fchmod,fchmodat,rename", XNFS, "d.img", "get", "/a", "t", status=0).stderr.decode().splitlines()
+    first = next(place for place, it in enumerate(told) if "O_EXCL" in it)
+    modes = [it for it in told[first:] if "chmod" in it or "O_EXCL" in it]
+    want(all(", 0600" in it for it in modes), f"a file in the place of one of mode 600: {modes}")
     want(stat.S_IMODE(os.stat("t").st_mode) == 0o600, f"mode {os.stat('t').st_mode:o}")
 
 
