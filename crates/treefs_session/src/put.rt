@@ -6,7 +6,7 @@ use treefs::Attributes;
 use treefs_format::Kind;
 
 /// A whole file or symbolic link that is to be put.
-#[derive(Clone, Copy, Debug)]
+#[derive(Clone, Copy)]
 pub struct Put<'a> {
     pub directory: u32,
     pub name: &'a [u8],

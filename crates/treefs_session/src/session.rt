@@ -1,6 +1,7 @@
 // A store with the open volume of a file system.
 
 ghost use Rattle.std.specs.Prelude.{◌≡◌, Err, IfErr, IfOk, Ok};
+ghost use Rattle.xn_model.specs.Lives.{StoreState};
 ghost use Rattle.treefs.specs.Making.{MkfsDoes};
 ghost use Rattle.treefs.specs.Opening.{opened};
 ghost use Rattle.treefs_mounts.specs.Opening.{MendsVolume};
@@ -93,7 +94,7 @@ impl<S: FlushStore + Drop> Session<S> {
         }
     }
 
-    /// Makes the volume of a file system that has none, as `mkfs` of a volume does it.
+    /// Makes the volume of a file system that has none, as `mkfs` of a volume does it, with its faults.
     pub fn format(
         alloc: Global,
         store: S,
@@ -105,6 +106,7 @@ impl<S: FlushStore + Drop> Session<S> {
         ensures types { IfOk result (λ session. S.types_of session.store ≡ S.types_of store) }
         ensures ok { IfOk result (λ session.
             MkfsDoes (S.types_of store) (S.state_of store) (S.state_of session.store) fs types key.now time (Ok session.volume)) }
+        ensures err { IfErr result (λ fault. (left : StoreState) × MkfsDoes (S.types_of store) (S.state_of store) left fs types key.now time (Err fault)) }
     {
         let mut store = store;
         match Volume::mkfs(alloc, &mut store, fs, types, key, time) {

@@ -11,7 +11,7 @@ use treefs_model::Fault;
 use treefs_puts::write_begun;
 
 /// Where bytes are written.
-#[derive(Clone, Copy, Debug)]
+#[derive(Clone, Copy)]
 pub enum Target {
     /// In the inode that was begun and has this block, from a byte on.
     Begun(u32, u64),
@@ -34,7 +34,7 @@ impl Target {
 }
 
 /// Writes a piece of some bytes, and answers how many that are: by `write_begun` in an inode that was begun, and else by `write_some` of a volume.
-#[derive(Clone, Copy, Debug)]
+#[derive(Clone, Copy)]
 pub struct Write<'a> {
     pub target: Target,
     pub bytes: &'a [u8],

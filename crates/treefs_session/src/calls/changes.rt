@@ -10,7 +10,7 @@ use treefs::{Settings, Volume};
 use treefs_model::Fault;
 
 /// A change that answers nothing. Each is the call of a volume that has its name.
-#[derive(Clone, Copy, Debug)]
+#[derive(Clone, Copy)]
 pub enum Change<'a> {
     /// Takes the name of a file or a symbolic link out of a directory.
     Unlink {

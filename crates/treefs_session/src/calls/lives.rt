@@ -12,7 +12,7 @@ use treefs_model::Fault;
 use treefs_mounts::{close, flush_volume};
 
 /// What a session does for itself.
-#[derive(Clone, Copy, Debug)]
+#[derive(Clone, Copy)]
 pub enum Upkeep<'a> {
     /// Frees the inodes of some numbers that have no links: `reap` of a volume.
     Reap { numbers: &'a [u32] },
@@ -42,7 +42,7 @@ impl Call for Upkeep<'_> {
 }
 
 /// Gives up an inode that nothing points to, and answers whether its block is free: `give_up` of a volume.
-#[derive(Clone, Copy, Debug)]
+#[derive(Clone, Copy)]
 pub struct GiveUp {
     pub block: u32,
 }

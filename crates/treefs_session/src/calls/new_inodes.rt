@@ -12,7 +12,7 @@ use treefs_format::Kind;
 use treefs_model::Fault;
 
 /// Makes an empty file in a directory, and answers its number: `create` of a volume.
-#[derive(Clone, Copy, Debug)]
+#[derive(Clone, Copy)]
 pub struct Create<'a> {
     pub directory: u32,
     pub name: &'a [u8],
@@ -36,7 +36,7 @@ impl Call for Create<'_> {
 }
 
 /// Makes an empty directory in another one, and answers its number: `mkdir` of a volume.
-#[derive(Clone, Copy, Debug)]
+#[derive(Clone, Copy)]
 pub struct Mkdir<'a> {
     pub directory: u32,
     pub name: &'a [u8],
@@ -60,7 +60,7 @@ impl Call for Mkdir<'_> {
 }
 
 /// Makes a symbolic link whose target has at most 384 bytes, and answers its number: `symlink` of a volume. A longer one is put.
-#[derive(Clone, Copy, Debug)]
+#[derive(Clone, Copy)]
 pub struct Symlink<'a> {
     pub directory: u32,
     pub name: &'a [u8],
@@ -94,7 +94,7 @@ impl Call for Symlink<'_> {
 }
 
 /// Begins a file or a symbolic link with the first bytes of its content, at most 384, and answers its block: `begin` of a volume.
-#[derive(Clone, Copy, Debug)]
+#[derive(Clone, Copy)]
 pub struct Begin<'a> {
     pub kind: Kind,
     pub attributes: Attributes,
@@ -119,7 +119,7 @@ impl Call for Begin<'_> {
 }
 
 /// Gives an inode that was begun, whose block is told, a name of a directory, and answers its number: `commit` of a volume.
-#[derive(Clone, Copy, Debug)]
+#[derive(Clone, Copy)]
 pub struct Commit<'a> {
     pub block: u32,
     pub directory: u32,
