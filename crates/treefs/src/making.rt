@@ -22,7 +22,7 @@ use xn_state::Store;
 pub const FIRST_POINTER: u16 = 48;
 
 /// Inode 1 is attached to inode 0.
-#[derive(Clone, Copy, Debug)]
+#[derive(Clone, Copy)]
 pub struct FirstPlan {
     /// Where the volume stands.
     pub tree: Tree,

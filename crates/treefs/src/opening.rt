@@ -17,7 +17,7 @@ use treefs_model::Fault;
 use xn_state::Store;
 
 /// Inode 0 says that the volume is closed, or open.
-#[derive(Clone, Copy, Debug)]
+#[derive(Clone, Copy)]
 pub struct MarkPlan {
     /// The block of inode 0.
     pub top: u32,

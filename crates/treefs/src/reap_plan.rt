@@ -4,7 +4,7 @@ use arrayvec::ArrayVec;
 use store_types::BLOCK_LEN;
 
 /// An inode that is to be freed.
-#[derive(Clone, Copy, Debug, Default)]
+#[derive(Clone, Copy, Default)]
 pub struct Freed {
     /// Its number.
     pub number: u32,

@@ -32,7 +32,7 @@ pub struct Attributes {
 }
 
 /// Attributes of an inode are set, by one edit.
-#[derive(Clone, Copy, Debug)]
+#[derive(Clone, Copy)]
 pub struct AttributesPlan {
     /// The inode's block.
     pub block: u32,

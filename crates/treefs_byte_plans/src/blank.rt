@@ -1,7 +1,7 @@
 // Bytes of a block become 0.
 
 /// All bytes of a block from one on become 0.
-#[derive(Clone, Copy, Debug)]
+#[derive(Clone, Copy)]
 pub struct BlankPlan {
     /// The block.
     pub block: u32,

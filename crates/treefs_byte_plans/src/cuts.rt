@@ -14,7 +14,7 @@ use xn_state::Store;
 pub(crate) const POINTERS: u32 = 127;
 
 /// Pointers of a node that are dropped: all from a place on.
-#[derive(Clone, Copy, Debug)]
+#[derive(Clone, Copy)]
 pub struct Cut {
     /// The node's block.
     pub block: u32,

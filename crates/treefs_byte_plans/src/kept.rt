@@ -1,7 +1,7 @@
 // What a trim keeps of an inode.
 
 /// An inode that is to be trimmed, and what is kept of its content.
-#[derive(Clone, Copy, Debug)]
+#[derive(Clone, Copy)]
 pub struct Kept {
     /// The inode's block.
     pub inode: u32,

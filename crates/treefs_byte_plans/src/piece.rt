@@ -4,7 +4,7 @@ use crate::run_plan::RunPlan;
 use treefs_edits::Times;
 
 /// Bytes of a content that stand in the inode are written, by one edit.
-#[derive(Clone, Copy, Debug)]
+#[derive(Clone, Copy)]
 pub struct ContentPlan<'a> {
     /// The inode's block.
     pub block: u32,
@@ -19,7 +19,7 @@ pub struct ContentPlan<'a> {
 }
 
 /// Bytes of a leaf that is there are written; and where the size rises, that and the times of the inode, behind the leaf.
-#[derive(Clone, Copy, Debug)]
+#[derive(Clone, Copy)]
 pub struct LeafPlan<'a> {
     /// The leaf's block.
     pub leaf: u32,
@@ -36,7 +36,7 @@ pub struct LeafPlan<'a> {
 }
 
 /// What the next piece of a write takes.
-#[derive(Clone, Copy, Debug)]
+#[derive(Clone, Copy)]
 pub enum WriteStep<'a> {
     /// There are no bytes.
     Nothing,

@@ -3,7 +3,7 @@
 use arrayvec::ArrayVec;
 
 /// A pointer of an inode that leads to a block.
-#[derive(Clone, Copy, Debug, Default)]
+#[derive(Clone, Copy, Default)]
 pub struct Pointer {
     /// The byte of the inode's block at which it begins.
     pub offset: u16,

@@ -3,7 +3,7 @@
 use treefs_edits::Times;
 
 /// A run of leaves that are missing is written: leaves whose pointers stand side by side in one block.
-#[derive(Clone, Copy, Debug)]
+#[derive(Clone, Copy)]
 pub struct RunPlan {
     /// The inode's block.
     pub inode: u32,

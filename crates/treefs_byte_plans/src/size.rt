@@ -4,7 +4,7 @@ use crate::kept::Kept;
 use treefs_edits::Times;
 
 /// The size of a file or a symbolic link is set, by one edit.
-#[derive(Clone, Copy, Debug)]
+#[derive(Clone, Copy)]
 pub struct SizePlan {
     /// The inode's block.
     pub block: u32,

@@ -24,7 +24,7 @@ const OWN_LEAVES: u32 = 16;
 const POINTERS: u32 = 16;
 
 /// A run of missing leaves, with its bytes.
-#[derive(Clone, Copy, Debug)]
+#[derive(Clone, Copy)]
 pub struct WritingRun<'a> {
     /// What it takes.
     pub plan: RunPlan,

@@ -11,7 +11,6 @@ use store_types::Refusal;
 use xn_state::Store;
 
 /// An edit of a block, behind all that is pending in another block when it is made.
-#[derive(Debug)]
 pub struct Act {
     /// The block that it edits.
     pub block: u32,

@@ -10,7 +10,7 @@ use treefs_model::Fault;
 use xn_state::Store;
 
 /// A block that is to be begun.
-#[derive(Debug, Drop)]
+#[derive(Drop)]
 pub struct Start {
     /// Its type.
     pub ty: u32,

@@ -20,7 +20,7 @@ pub fn end(bucket: &[u8]) -> usize
 }
 
 /// How many bytes the records of a bucket have.
-#[derive(Clone, Copy, Debug)]
+#[derive(Clone, Copy)]
 pub struct RecordLengths {
     /// All of them, which is the place behind the last one.
     pub all: usize,

@@ -78,7 +78,7 @@ impl Fields {
 }
 
 /// What one of the fields is to be. What is read once it is written is said by the law `changes_are_made`.
-#[derive(Clone, Copy, Debug)]
+#[derive(Clone, Copy)]
 pub enum Change {
     Mode(u16),
     Links(u32),

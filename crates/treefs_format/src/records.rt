@@ -11,7 +11,7 @@ use std::alloc::{AllocError, Global};
 pub const RECORD_HEAD: usize = 5;
 
 /// A record of a bucket.
-#[derive(Clone, Copy, Debug)]
+#[derive(Clone, Copy)]
 pub struct Record<'a> {
     /// Where it begins.
     pub offset: usize,
@@ -23,7 +23,7 @@ pub struct Record<'a> {
 }
 
 /// The records that bytes begin with, in their order.
-#[derive(Debug, Drop)]
+#[derive(Drop)]
 pub struct Records<'a> {
     offset: usize,
     rest: &'a [u8],

@@ -13,7 +13,7 @@ pub const LEAF_LEN: u64 = BLOCK_LEN as u64;
 pub const GREATEST_SIZE: u64 = 134_251_159_552;
 
 /// Where a byte of a content stands.
-#[derive(Clone, Copy, Debug, PartialEq, Eq)]
+#[derive(Clone, Copy, PartialEq, Eq)]
 pub enum Place {
     /// At this byte of the inode block.
     InInode(u16),

@@ -9,7 +9,7 @@ use Rattle.treefs_format.proofs.ForCallers.{blank_at}
 use Rattle.treefs_format.specs.Paths.{height_of, leaf_count, leaf_offset, steps, tree_offset}
 use Rattle.treefs_model.specs.Reading.{block_at, pointed}
 use Rattle.treefs_lookup.specs.Trimmed.{NoneBegins, pointers_past}
-use Rattle.treefs_lookup.proofs.TopPointers.{IsInTree, in_its_tree, own_steps}
+use Rattle.treefs_lookup.proofs.TopPointers.{in_its_tree, own_steps}
 use Rattle.treefs_lookup.proofs.Trees.{own_height}
 use Rattle.treefs_lookup.proofs.Walks.{lacks_above}
 

@@ -1,19 +1,21 @@
 // Bytes of files and symbolic links.
 
-ghost use Rattle.std.specs.Prelude.{◌≡◌, ◌+◌, ◌<◌, ◌≤◌, ◌++◌, drop, length, map, slice_index};
+ghost use Rattle.std.specs.Prelude.{◌≡◌, ◌+◌, ◌<◌, ◌≤◌, ◌++◌, [], MatchOption, drop, length, map, slice_index};
 ghost use Rattle.std.specs.List.{range_with_len};
 ghost use Rattle.treefs_format.specs.Leaves.{greatest_size};
+ghost use Rattle.treefs_format.specs.Paths.{leaf_count};
 ghost use Rattle.treefs_lookup.specs.Bytes.{bytes_from, count_from, part_left, read_count, read_into};
 ghost use Rattle.treefs_lookup.specs.Inodes.{file_found, link_found};
 ghost use Rattle.treefs_lookup.specs.Readable.{readable};
-ghost use Rattle.treefs_model.specs.Reading.{leaf_byte};
+ghost use Rattle.treefs_model.specs.Reading.{leaf_block, leaf_byte};
 
 use crate::blocks::read_block;
 use crate::inodes::{Found, find_file, find_link};
-use crate::paths::leaf_block;
+use crate::paths::{OWN_LEAVES, leaf_block};
 use edit_list::Fs;
 use store_types::BLOCK_LEN;
 use treefs_format::inodes::{CONTENT, CONTENT_LEN};
+use treefs_format::pointers;
 use treefs_format::sizes::{GREATEST_SIZE, LEAF_LEN};
 use treefs_model::Fault;
 use xn_state::Store;
@@ -60,8 +62,37 @@ pub fn part_left(byte: u64) -> u64
     }
 }
 
-/// Copies bytes of a content that stand together.
-pub(crate) fn copy_part<S: Store>(store: &S, fs: Fs, inode: u32, at: u64, part: &mut [u8])
+/// The block of a leaf of an inode with these bytes, which are not read again where they have the pointer; 0 for none.
+fn leaf_below<S: Store>(
+    store: &S,
+    fs: Fs,
+    inode: u32,
+    own: Option<&[u8; BLOCK_LEN]>,
+    leaf: u32,
+) -> u32
+    requires own { MatchOption own (readable (S.state_of store.now) fs.number inode ≡ []) (λ bytes. readable (S.state_of store.now) fs.number inode ≡ bytes.now) }
+    requires there { leaf < leaf_count }
+    ensures { result ≡ leaf_block (readable (S.state_of store.now) fs.number) inode leaf }
+{
+    match own {
+        Some(bytes) if leaf < OWN_LEAVES && inode != 0 => {
+            pointers::pointer_at(bytes, 48 + 4 * leaf as usize)
+        }
+        _ => leaf_block(store, fs, inode, leaf),
+    }
+}
+
+/// Copies bytes that stand together of the content of an inode with these bytes.
+#[inline(always)]
+pub(crate) fn copy_part<S: Store>(
+    store: &S,
+    fs: Fs,
+    inode: u32,
+    own: Option<&[u8; BLOCK_LEN]>,
+    at: u64,
+    part: &mut [u8],
+)
+    requires own { MatchOption own (readable (S.state_of store.now) fs.number inode ≡ []) (λ bytes. readable (S.state_of store.now) fs.number inode ≡ bytes.now) }
     requires low { at < greatest_size }
     requires within { length part.old ≤ part_left at }
     ensures { part.new ≡ bytes_from (readable (S.state_of store.now) fs.number) inode at (length part.old) }
@@ -69,7 +100,7 @@ pub(crate) fn copy_part<S: Store>(store: &S, fs: Fs, inode: u32, at: u64, part: 
     if at < CONTENT_LEN as u64 {
         copy_block(store, fs, inode, CONTENT + at as usize, part);
     } else {
-        let block = leaf_block(store, fs, inode, (at / LEAF_LEN) as u32);
+        let block = leaf_below(store, fs, inode, own, (at / LEAF_LEN) as u32);
         copy_leaf(store, fs, block, (at % LEAF_LEN) as usize, part);
     }
 }
@@ -81,11 +112,13 @@ pub fn read_bytes<S: Store>(store: &S, fs: Fs, file: &Found, at: u64, bytes: &mu
 {
     let end = file.fields.size.min(GREATEST_SIZE);
     let count = (bytes.len() as u64).min(end.saturating_sub(at)) as usize;
+    let own = read_block(store, fs, file.block);
     let mut done = 0;
     while done < count {
         let from = at + done as u64;
         let length = part_left(from).min((count - done) as u64) as usize;
-        copy_part(store, fs, file.block, from, &mut bytes[done..done + length]);
+        let part = &mut bytes[done..done + length];
+        copy_part(store, fs, file.block, own, from, part);
         done += length;
     }
     count

@@ -12,7 +12,7 @@ use treefs_format::paths::{LEAVES, first_leaf, height};
 use xn_state::Store;
 
 /// A leaf of an inode that is there.
-#[derive(Clone, Copy, Debug)]
+#[derive(Clone, Copy)]
 pub struct Leaf {
     /// The leaf.
     pub number: u32,

@@ -16,7 +16,7 @@ use treefs_model::Fault;
 use xn_state::Store;
 
 /// Where a live record stands.
-#[derive(Clone, Copy, Debug)]
+#[derive(Clone, Copy)]
 pub struct Slot {
     /// The block of its bucket.
     pub block: u32,

@@ -14,10 +14,10 @@ use treefs_format::paths::{height, last_beside, path};
 use xn_state::Store;
 
 /// How many pointers to leaves stand in an inode.
-const OWN_LEAVES: u32 = 16;
+pub(crate) const OWN_LEAVES: u32 = 16;
 
 /// How far a path of pointers leads.
-#[derive(Clone, Copy, Debug, PartialEq, Eq)]
+#[derive(Clone, Copy, PartialEq, Eq)]
 pub struct Reach {
     /// The last block on it that is there.
     pub block: u32,

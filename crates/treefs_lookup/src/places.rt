@@ -18,7 +18,7 @@ use treefs_model::Fault;
 use xn_state::Store;
 
 /// Where a new name goes in a directory.
-#[derive(Clone, Copy, Debug)]
+#[derive(Clone, Copy)]
 pub enum NamePlace {
     /// Into its own dead record, which begins at this byte of the block.
     DeadRecord {

@@ -15,7 +15,7 @@ use treefs_format::buckets::other_record;
 use xn_state::Store;
 
 /// What a bucket is looked for.
-#[derive(Clone, Copy, Debug)]
+#[derive(Clone, Copy)]
 pub enum Sought {
     /// A live record.
     Live,

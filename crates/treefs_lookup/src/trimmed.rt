@@ -91,7 +91,8 @@ pub fn is_blank_past<S: Store>(store: &S, fs: Fs, inode: u32, size: u64) -> bool
 {
     let mut part = [0u8; BLOCK_LEN];
     let length = part_left(size) as usize;
-    copy_part(store, fs, inode, size, &mut part[..length]);
+    let own = read_block(store, fs, inode);
+    copy_part(store, fs, inode, own, size, &mut part[..length]);
     are_zeros(&part[..length])
 }
 

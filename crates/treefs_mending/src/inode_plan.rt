@@ -14,7 +14,7 @@ use treefs_model::Fault;
 use xn_state::Store;
 
 /// What is to change of an inode.
-#[derive(Clone, Copy, Debug)]
+#[derive(Clone, Copy)]
 pub struct InodePlan {
     /// The block of the inode.
     pub block: u32,

@@ -12,7 +12,7 @@ use treefs_model::Fault;
 use xn_state::Store;
 
 /// Where a name leads.
-#[derive(Clone, Copy, Debug)]
+#[derive(Clone, Copy)]
 pub enum Lead {
     /// To no inode, or to a directory that was found before: the name is one too many.
     Surplus,

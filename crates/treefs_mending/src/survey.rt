@@ -15,7 +15,7 @@ use treefs_lookup::{find_inode, next_leaf};
 use xn_state::Store;
 
 /// A directory that a name leads to, or inode 1.
-#[derive(Clone, Copy, Debug)]
+#[derive(Clone, Copy)]
 pub struct Directory {
     /// Its number.
     pub number: u32,
@@ -24,7 +24,6 @@ pub struct Directory {
 }
 
 /// What the names of a volume lead to.
-#[derive(Debug)]
 pub struct Survey {
     /// The names that are one too many: they lead to no inode, to inode 1, or to a directory that another name leads to that was met before; or
     /// they stand in a directory that is not found. In the order in which they were met.

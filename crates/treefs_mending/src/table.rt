@@ -10,7 +10,7 @@ use treefs_lookup::{Found, find_inode, next_leaf};
 use xn_state::Store;
 
 /// An inode with its number.
-#[derive(Clone, Copy, Debug)]
+#[derive(Clone, Copy)]
 pub struct Numbered {
     /// Its number.
     pub number: u32,

@@ -6,7 +6,7 @@ ghost use Rattle.treefs_mending.specs.Tallies.{is_found, named, padded, tally_at
 use std::alloc::AllocError;
 
 /// The names that lead to an inode.
-#[derive(Clone, Copy, Debug)]
+#[derive(Clone, Copy)]
 pub struct Tally {
     /// How many they are; 2^32 - 1 stands for all that are more.
     pub names: u32,

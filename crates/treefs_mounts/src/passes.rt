@@ -14,7 +14,7 @@ use treefs_model::Fault;
 use xn_state::Store;
 
 /// A pass over a volume.
-#[derive(Clone, Copy, Debug)]
+#[derive(Clone, Copy)]
 pub enum Pass {
     /// Names that are one too many end.
     Names,

@@ -3,7 +3,7 @@
 /// A bucket that is made, with the nodes that its path lacks.
 use store_types::BLOCK_LEN;
 
-#[derive(Clone, Copy, Debug)]
+#[derive(Clone, Copy)]
 pub struct NewBucket {
     /// The last block that stands on its path.
     pub owner: u32,
@@ -16,7 +16,7 @@ pub struct NewBucket {
 }
 
 /// A bucket that is rewritten without its dead records, before a record is made behind the live ones.
-#[derive(Clone, Copy, Debug)]
+#[derive(Clone, Copy)]
 pub struct OldBucket {
     /// Its block.
     pub block: u32,
@@ -29,7 +29,7 @@ pub struct OldBucket {
 }
 
 /// Where a new record goes.
-#[derive(Clone, Copy, Debug)]
+#[derive(Clone, Copy)]
 pub enum Addition {
     /// To this byte of a block: behind the records of a bucket, or into a dead record of its name.
     Behind(u32, u16),

@@ -3,7 +3,7 @@
 use crate::naming::Naming;
 
 /// What it takes that a new inode gets its first name, or the place of another one.
-#[derive(Clone, Copy, Debug)]
+#[derive(Clone, Copy)]
 pub struct CommitPlan {
     /// The number that it gets.
     pub number: u32,

@@ -12,7 +12,7 @@ use treefs_edits::nodes::{last_or_owner, push_node_acts, push_node_starts};
 use treefs_edits::{Act, Planned, Start, kinds};
 
 /// An inode that is begun gets its first name, or the place of another one.
-#[derive(Clone, Copy, Debug)]
+#[derive(Clone, Copy)]
 pub struct Committing<'a> {
     /// What it takes.
     pub plan: CommitPlan,

@@ -7,7 +7,7 @@ use std::alloc::{AllocError, Global};
 use treefs_edits::{Act, ActsAlone};
 
 /// A file's name ends, behind another name of its inode where it has to be.
-#[derive(Clone, Copy, Debug)]
+#[derive(Clone, Copy)]
 pub struct EndPlan {
     /// The record and the inode.
     pub end: NameEnd,

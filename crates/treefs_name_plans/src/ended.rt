@@ -3,7 +3,7 @@
 use treefs_lookup::{Found, Slot};
 
 /// A name that is to end.
-#[derive(Clone, Copy, Debug)]
+#[derive(Clone, Copy)]
 pub struct Ended {
     /// The inode block of its directory.
     pub directory: u32,

@@ -7,7 +7,7 @@ use std::alloc::{AllocError, Global};
 use treefs_edits::{Act, Times, kinds};
 
 /// What an inode is to be that gets a link more, or one fewer.
-#[derive(Clone, Copy, Debug)]
+#[derive(Clone, Copy)]
 pub struct LinkChange {
     /// Its block.
     pub block: u32,

@@ -4,7 +4,7 @@ use crate::addition::Addition;
 use crate::link_change::LinkChange;
 
 /// What one more name of an inode takes: a link more, and a record.
-#[derive(Clone, Copy, Debug)]
+#[derive(Clone, Copy)]
 pub struct LinkPlan {
     /// The number of the inode.
     pub number: u32,

@@ -8,7 +8,7 @@ use std::alloc::{AllocError, Global};
 use treefs_edits::{Act, Planned, Start};
 
 /// One more name of an inode.
-#[derive(Clone, Copy, Debug)]
+#[derive(Clone, Copy)]
 pub struct Linking<'a> {
     /// What it takes.
     pub plan: LinkPlan,

@@ -9,7 +9,7 @@ use treefs_edits::fronts::{behind, block_at};
 use treefs_edits::{Act, Planned, Start};
 
 /// A new inode with its first name.
-#[derive(Clone, Copy, Debug)]
+#[derive(Clone, Copy)]
 pub struct MakingNew<'a> {
     /// What it takes.
     pub plan: NewPlan,

@@ -3,7 +3,7 @@
 use crate::ended::Ended;
 
 /// A name that is to move.
-#[derive(Clone, Copy, Debug)]
+#[derive(Clone, Copy)]
 pub struct Moved {
     /// The old name.
     pub old: Ended,

@@ -8,7 +8,7 @@ use std::alloc::{AllocError, Global};
 use treefs_edits::{Act, kinds};
 
 /// What the end of a name changes: its record leads to its inode no more, and the inode gets a link fewer.
-#[derive(Clone, Copy, Debug)]
+#[derive(Clone, Copy)]
 pub struct NameEnd {
     /// The number of the inode.
     pub number: u32,

@@ -4,7 +4,7 @@ use crate::addition::Addition;
 use crate::name_end::NameEnd;
 
 /// How a name comes to lead to an inode.
-#[derive(Clone, Copy, Debug)]
+#[derive(Clone, Copy)]
 pub enum Naming {
     /// A record is made.
     Added(Addition),

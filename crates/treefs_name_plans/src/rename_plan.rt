@@ -5,7 +5,7 @@ use crate::naming::Naming;
 use treefs_edits::Times;
 
 /// What a name's move takes.
-#[derive(Clone, Copy, Debug)]
+#[derive(Clone, Copy)]
 pub struct RenamePlan {
     /// The number of the inode.
     pub number: u32,
@@ -24,7 +24,7 @@ pub struct RenamePlan {
 }
 
 /// How an old name is taken for a new one.
-#[derive(Clone, Copy, Debug)]
+#[derive(Clone, Copy)]
 pub enum Moving {
     /// By one edit, since both records stand in one block. These are the inode's times then, which no edit writes.
     Together(Times),
@@ -33,7 +33,7 @@ pub enum Moving {
 }
 
 /// An inode gets a link more, and one fewer.
-#[derive(Clone, Copy, Debug)]
+#[derive(Clone, Copy)]
 pub struct LinksBetween {
     /// The block behind which it gets one more.
     pub behind: u32,

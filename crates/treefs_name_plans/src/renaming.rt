@@ -12,7 +12,7 @@ use treefs_edits::{Act, Planned, Start, kinds};
 use treefs_format::records::append_record;
 
 /// A name moves.
-#[derive(Clone, Copy, Debug)]
+#[derive(Clone, Copy)]
 pub struct Renaming<'a> {
     /// What it takes.
     pub plan: RenamePlan,

@@ -11,7 +11,7 @@ use treefs_model::Fault;
 use xn_state::Store;
 
 /// The last name of a path, what stands before it, and the slashes behind it.
-#[derive(Clone, Copy, Debug)]
+#[derive(Clone, Copy)]
 pub struct Parts<'p> {
     pub before: &'p [u8],
     pub name: &'p [u8],
@@ -19,7 +19,7 @@ pub struct Parts<'p> {
 }
 
 /// The last name of a path, and the directory in which it stands, or would stand.
-#[derive(Clone, Copy, Debug)]
+#[derive(Clone, Copy)]
 pub struct Component<'p> {
     /// The number of the directory.
     pub directory: u32,

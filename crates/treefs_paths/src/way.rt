@@ -3,7 +3,6 @@
 use std::marker::Model;
 
 /// How far a path is gone.
-#[derive(Debug)]
 pub struct Way {
     /// The inode to which it led so far.
     pub number: u32,

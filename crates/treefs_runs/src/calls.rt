@@ -4,7 +4,7 @@ ghost use Rattle.std.specs.Prelude.{◌<◌};
 
 use crate::reports::times_of;
 use crate::text::Text;
-use crate::volumes::{Made, make_volume};
+use crate::volumes::{Disk, Made, make_volume};
 use crate::words::{Asked, Change, Look, Make, Verb, read_line};
 use std::alloc::{AllocError, Global};
 use std::thread::Threads;
@@ -101,13 +101,28 @@ fn answer(
     told: &mut Text,
 ) -> Result<(), AllocError> {
     let Made { store, volume } = made;
-    call(alloc, store, volume, asked, told)?;
     match asked.verb {
-        Verb::Wave => store.wave(alloc)?,
-        Verb::Flush => store.drain(),
-        _ => {}
+        Verb::Wave => told.stepped(store.wave(alloc)),
+        Verb::Sync => told.answer(write_all(alloc, store, volume)),
+        Verb::Quiet => {
+            store.be_quiet();
+            told.put("ok");
+        }
+        _ => call(alloc, store, volume, asked, told)?,
+    }
+    if let Verb::Flush = asked.verb {
+        store.drain();
     }
     Ok(())
+}
+
+/// Writes the times, and then all that is pending in waves, and answers how many these were.
+pub fn write_all(alloc: Global, store: &mut Disk, volume: &mut Volume) -> Result<u32, Fault> {
+    volume.write_times(alloc, store)?;
+    match store.flush(alloc) {
+        Ok(waves) => Ok(waves),
+        Err(refusal) => Err(Fault::Kernel(refusal)),
+    }
 }
 
 /// Makes a call, and tells its answer. Before a flush the times are written, of the other steps nothing is done.
@@ -142,7 +157,7 @@ fn call<S: Store>(
         Verb::Flush => {
             told.done(volume.write_times(alloc, store));
         }
-        Verb::Mkfs | Verb::Wave => told.put("ok"),
+        Verb::Mkfs | Verb::Wave | Verb::Sync | Verb::Quiet => told.put("ok"),
     }
     Ok(())
 }

@@ -1,62 +1,54 @@
 // The disk below a store: waves of writes, and drains.
 
 use crate::recorder::Recorder;
-use std::alloc::{AllocError, Global};
-use world::{Event, Reply, Running};
+use disk::Lane;
+use flush_store::FlushStore;
+use std::alloc::Global;
+use store_types::Refusal;
+use xn_kernel::{DrainStop, Kernel};
+use xn_state::Store;
 
-/// More writes than any transcript has.
-const MANY: u32 = 1_000_000;
+/// As many blocks as the largest disk has.
+const BLOCKS: u32 = 32_768;
 
-impl Recorder<Running> {
-    /// Begins each block that may be written, the least first, and then writes, syncs and finishes each. Notes these blocks.
-    pub fn wave(&mut self, alloc: Global) -> Result<(), AllocError> {
-        let mut blocks = Vec::new(alloc);
+impl<L: Lane + Drop> Recorder<Kernel<L>> {
+    /// Writes each block that may be written. Notes these blocks.
+    pub fn wave(&mut self, alloc: Global) -> Result<(), Refusal> {
         self.note("  wave >");
-        for _block in 0..MANY {
-            let Some(block) = self.begin_next() else {
-                break;
-            };
-            self.note_number(" ", block);
-            blocks.push(block)?;
+        let mut is_idle = true;
+        for block in 0..BLOCKS {
+            if self.store.state().begun_count(block).is_ok() {
+                self.note_number(" ", block);
+                is_idle = false;
+            }
         }
-        if blocks.is_empty() {
-            self.note(" ");
-        }
-        self.note("\n");
-        for block in blocks.iter() {
-            let _landed = self.step(&Event::Land(*block));
-        }
-        for block in blocks.iter() {
-            let _synced = self.step(&Event::Sync(*block));
-        }
-        for block in blocks.iter() {
-            let _finished = self.step(&Event::Finish(*block));
-        }
+        self.note(if is_idle { " \n" } else { "\n" });
+        let _waves = FlushStore::flush_waves(&mut self.store, alloc, 1)?;
         Ok(())
+    }
+
+    /// Writes all that is pending, and answers how many waves that took.
+    pub fn flush(&mut self, alloc: Global) -> Result<u32, Refusal> {
+        FlushStore::flush(&mut self.store, alloc)
     }
 
     /// Writes block after block, the least that may be written first, until nothing is pending. Notes how many writes that took.
     pub fn drain(&mut self) {
-        let mut writes = 0u32;
-        for _block in 0..MANY {
-            let Some(block) = self.begin_next() else {
-                break;
-            };
-            let _landed = self.step(&Event::Land(block));
-            let _synced = self.step(&Event::Sync(block));
-            let _finished = self.step(&Event::Finish(block));
-            writes = writes.saturating_add(1);
-        }
+        let writes = match self.store.drain() {
+            Ok(writes) => writes,
+            Err(stop) => {
+                let DrainStop {
+                    writes,
+                    ticket,
+                    refusal: _,
+                } = stop;
+                if let Some(ticket) = ticket {
+                    let _lane = ticket.into_lane();
+                }
+                writes
+            }
+        };
         self.note_number("  drain > writes ", writes);
         self.note("\n");
-    }
-
-    /// Begins the least block that may be written.
-    fn begin_next(&mut self) -> Option<u32> {
-        let block = self.running().kernel().state().pick()?;
-        match self.step(&Event::Begin(block)) {
-            Reply::Begun { .. } => Some(block),
-            _ => None,
-        }
     }
 }

@@ -1,6 +1,7 @@
 // Plays transcripts of the calls of a file system of trees on a disk in memory: each call's edits of the store, and what it answers, are compared with what is
 // written. The transcripts are those that its arguments name. Prints how many calls and lines were as written, or the first that was not. Behind `--tell` stand
-// the names of files that have calls alone, of which it prints the transcripts.
+// the names of files that have calls alone, of which it prints the transcripts. Behind `--make` stand the word of a call, `create`, `find`, `read` or `write`, and
+// how often it is made on a volume of its own; nothing is noted of these.
 // May touch: memory, threads, files, streams.
 #![tactic(auto)]
 
@@ -12,11 +13,13 @@ mod text;
 mod transcript;
 mod volumes;
 mod words;
+mod works;
 
 use std::process::ExitCode;
 use std::thread::Threads;
 use std::{env, fs, io};
 use transcript::{Played, play, tell};
+use works::Work;
 
 /// Plays the transcript of a name, and counts what is as written. `false` where something is not, which is printed. Threads are started by the second handle
 /// alone.
@@ -73,10 +76,31 @@ fn tell_files(
     Ok(ExitCode::from(0))
 }
 
+/// Makes the calls that a word names, so many rounds, and prints what they answered in sum.
+fn make(
+    rt: &HostRuntime,
+    threads: &(impl Threads + Sync),
+    word: &str,
+    rounds: &str,
+) -> io::Result<ExitCode> {
+    let (Some(work), Ok(rounds)) = (Work::of_word(word), rounds.parse::<u32>()) else {
+        println!(rt; "the words are create, find, read and write, each with a number of rounds")?;
+        return Ok(ExitCode::from(2));
+    };
+    match work.run(threads, rt.alloc(), rounds)? {
+        Ok(answer) => println!(rt; "{word} {rounds}: {answer}")?,
+        Err(_) => println!(rt; "{word} {rounds}: refused")?,
+    }
+    Ok(ExitCode::from(0))
+}
+
 fn main(rt: HostRuntime) -> io::Result<ExitCode> {
     let words: Vec<String> = env::args(&rt)?.skip(1).collect(rt.alloc())?;
     match words.as_slice() {
         [first, names @ ..] if first.as_str() == "--tell" => tell_files(&rt, &rt, names),
+        [first, word, rounds] if first.as_str() == "--make" => {
+            make(&rt, &rt, word.as_str(), rounds.as_str())
+        }
         names => play_files(&rt, &rt, names),
     }
 }

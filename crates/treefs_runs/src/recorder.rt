@@ -1,20 +1,20 @@
 // A store that notes each call by which it changes, as a line of a transcript with its answer.
 
 ghost use Rattle.std.specs.Prelude.{◌≡◌};
-ghost use Rattle.xn_state.specs.Events.{IsNoCrash};
 
 use crate::text::{Text, without_end};
 use edit_list::{Edit, EditId, Fs};
 use std::alloc::Global;
 use std::marker::Model;
 use store_types::{BLOCK_LEN, Refusal};
-use world::{Event, Reply, Running};
 use xn_state::{State, Store};
 
 /// A store, and the lines of the calls that changed it since they were last taken.
 pub struct Recorder<S> {
-    store: S,
+    pub store: S,
     lines: Text,
+    /// Whether nothing is noted.
+    is_quiet: bool,
 }
 
 impl<S> Model for Recorder<S> {
@@ -25,7 +25,11 @@ impl<S> Model for Recorder<S> {
 
 impl<S: Drop> Drop for Recorder<S> {
     fn drop(self) {
-        let Recorder { store: _, lines: _ } = self;
+        let Recorder {
+            store: _,
+            lines: _,
+            is_quiet: _,
+        } = self;
     }
 }
 
@@ -37,28 +41,42 @@ impl<S> Recorder<S> {
         Recorder {
             store,
             lines: Text::new(alloc),
+            is_quiet: false,
         }
+    }
+
+    /// Notes nothing any more.
+    pub fn be_quiet(&mut self)
+        ensures { self.new ≡ self.old }
+    {
+        self.is_quiet = true;
     }
 
     /// Notes a part of a line.
     pub fn note(&mut self, part: &str)
         ensures { self.new ≡ self.old }
     {
-        self.lines.put(part);
+        if !self.is_quiet {
+            self.lines.put(part);
+        }
     }
 
     /// Notes a part of a line, and a number behind it.
     pub fn note_number(&mut self, part: &str, number: u32)
         ensures { self.new ≡ self.old }
     {
-        self.lines.number(part, number);
+        if !self.is_quiet {
+            self.lines.number(part, number);
+        }
     }
 
     /// Notes bytes.
     pub fn note_bytes(&mut self, bytes: &[u8])
         ensures { self.new ≡ self.old }
     {
-        self.lines.bytes(bytes);
+        if !self.is_quiet {
+            self.lines.bytes(bytes);
+        }
     }
 
     /// Takes what was noted.
@@ -66,20 +84,6 @@ impl<S> Recorder<S> {
         ensures { self.new ≡ self.old }
     {
         self.lines.take(alloc)
-    }
-}
-
-impl Recorder<Running> {
-    /// The world below.
-    pub fn running(&self) -> &Running {
-        &self.store
-    }
-
-    /// One event, any but a crash, which is not noted.
-    pub fn step(&mut self, event: &Event) -> Reply
-        requires { IsNoCrash event.now }
-    {
-        self.store.step(event)
     }
 }
 
@@ -171,25 +175,33 @@ impl<S: Store> Store for Recorder<S> {
 
     fn init(&mut self, fs: Fs, ty: u32, bytes: &[u8; BLOCK_LEN]) -> Result<(u32, EditId), Refusal> {
         let made = self.store.init(fs, ty, bytes);
-        self.lines.init_line(fs, ty, bytes, &made);
+        if !self.is_quiet {
+            self.lines.init_line(fs, ty, bytes, &made);
+        }
         made
     }
 
     fn propose(&mut self, fs: Fs, block: u32, edit: &Edit) -> Result<EditId, Refusal> {
         let made = self.store.propose(fs, block, edit);
-        self.lines.edit_line(fs, block, edit, &made);
+        if !self.is_quiet {
+            self.lines.edit_line(fs, block, edit, &made);
+        }
         made
     }
 
     fn make_root(&mut self, fs: Fs, block: u32) -> Result<EditId, Refusal> {
         let made = self.store.make_root(fs, block);
-        self.lines.root_line(fs, block, &made);
+        if !self.is_quiet {
+            self.lines.root_line(fs, block, &made);
+        }
         made
     }
 
     fn forget(&mut self, fs: Fs, block: u32) -> Result<(), Refusal> {
         let done = self.store.forget(fs, block);
-        self.lines.forget_line(fs, block, done);
+        if !self.is_quiet {
+            self.lines.forget_line(fs, block, done);
+        }
         done
     }
 

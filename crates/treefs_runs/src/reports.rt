@@ -1,6 +1,7 @@
 // What calls answer, as a transcript writes it.
 
 use crate::text::Text;
+use store_types::Refusal;
 use treefs::Volume;
 use treefs_check::Finding;
 use treefs_edits::Times;
@@ -16,6 +17,14 @@ impl Text {
         match answer {
             Ok(()) => self.put("ok"),
             Err(fault) => self.fault(fault),
+        }
+    }
+
+    /// That a step of the device was done, or its refusal.
+    pub fn stepped(&mut self, answer: Result<(), Refusal>) {
+        match answer {
+            Ok(()) => self.put("ok"),
+            Err(refusal) => self.fault(Fault::Kernel(refusal)),
         }
     }
 

@@ -18,6 +18,8 @@ pub enum Verb {
     Time,
     Wave,
     Flush,
+    Sync,
+    Quiet,
 }
 
 /// Calls that answer a number.
@@ -61,7 +63,7 @@ pub enum Look {
 type Form = (&'static str, usize, Verb, usize, usize, usize);
 
 /// The lines that are calls.
-static FORMS: [Form; 33] = [
+static FORMS: [Form; 35] = [
     ("mkfs", 3, Verb::Mkfs, 0, 0, 0),
     ("create", 3, Verb::Make(Make::Create), 2, 0, 0),
     ("create", 4, Verb::Make(Make::Create), 2, 0, 0),
@@ -95,6 +97,8 @@ static FORMS: [Form; 33] = [
     ("time", 2, Verb::Time, 0, 0, 0),
     ("wave", 1, Verb::Wave, 0, 0, 0),
     ("flush", 1, Verb::Flush, 0, 0, 0),
+    ("sync", 1, Verb::Sync, 0, 0, 0),
+    ("quiet", 1, Verb::Quiet, 0, 0, 0),
 ];
 
 /// What a line asks for, and with what.

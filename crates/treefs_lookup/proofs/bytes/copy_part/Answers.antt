@@ -11,4 +11,4 @@ returns-then-at g c =
 pub returns-else-at : goal.returns-else-at
 returns-else-at g c =
     let content = readable (g.S.Store.state_of c.args.store.now) c.args.fs.number in
-    c.copy_leaf.ensures ∙ in_leaf content c.args.inode c.args.at (length c.args.part.now) c.leaf_block-block.result c.leaf_block-block.ensures c.if-at.false c.requires.within
+    c.copy_leaf.ensures ∙ in_leaf content c.args.inode c.args.at (length c.args.part.now) c.leaf_below-block.result c.leaf_below-block.ensures c.if-at.false c.requires.within
