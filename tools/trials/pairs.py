@@ -83,6 +83,8 @@ def made(folder, setup):
             del base[entry]
         else:
             base[entry.block] = entry.apply(base.get(entry.block, bytes(BLOCK)))
+            for block in entry.drops:
+                del base[block]
     top = int(next(line for line in setup if line.startswith("  root")).split(" ")[4])
     for block, data in base.items():
         if image[BLOCK * block : BLOCK * (block + 1)] != data:
