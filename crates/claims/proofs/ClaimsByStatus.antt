@@ -50,7 +50,7 @@ module _ (T : Types) (state : StoreState) (b fs : ℕ) (l : Life) (new : List �
       blocks_of_has old (n, m.0.ty)
       (owned_pair T state b l ok alive n m.0.ty (record { life = m.0; alive = m.1; holds = (refl, owned_from b m.0.status m.2) }))
 
-  adds_apart : (n : ℕ) → Contains (blocks_of (without old drops)) n → Contains (blocks_of adds) n → ⊥
+  pub adds_apart : (n : ℕ) → Contains (blocks_of (without old drops)) n → Contains (blocks_of adds) n → ⊥
   adds_apart n i j =
       let left = is_left old drops n i in
       let owned = pair_owned T state b l ok alive n left.ty left.there in

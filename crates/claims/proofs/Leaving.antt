@@ -18,7 +18,7 @@ fits m p long is =
     omega (arith, leb-true (p.offset + length p.bytes) 512 (and_parts (nat_lt 0 (length p.bytes)) (nat_le (p.offset + length p.bytes) 512) is).1, long)
 
 -- patches that write into none of the chunks leave what they hold
-agree_patched : (chunks : ℕ) (patches : List Patch) → All (WritesApart chunks) patches → list_all is_patch patches ≡ true → (m : List ℕ) → length m ≡ 512 → AgreeOn chunks m (patched m patches)
+pub agree_patched : (chunks : ℕ) (patches : List Patch) → All (WritesApart chunks) patches → list_all is_patch patches ≡ true → (m : List ℕ) → length m ≡ 512 → AgreeOn chunks m (patched m patches)
 agree_patched chunks [] apart are m long i noted = refl
 agree_patched chunks (p ∷ ps) apart are m long i noted =
     let parts = and_parts (is_patch p) (list_all is_patch ps) are in

@@ -2,6 +2,7 @@ pub mod OwnedPairs
 pub mod ListCounts
 pub mod ClaimsByStatus
 pub mod CountedPairs
+pub mod Insertions
 pub mod Owners
 pub mod Climbing
 pub mod Counted

@@ -15,4 +15,4 @@ pub use claimed::is_claimed;
 pub use counts::OwnedCounts;
 pub use distinct::{are_blocks_distinct, are_distinct};
 pub use pairs::owned_pairs;
-pub use read_sets::leaves;
+pub use read_sets::{are_apart, leaves};

@@ -17,7 +17,7 @@ pub fn leaves(reads: ReadSet, edit: &Edit) -> bool
 }
 
 /// Whether patches write into no chunk of a set.
-fn are_apart(reads: ReadSet, patches: &[Patch]) -> bool
+pub fn are_apart(reads: ReadSet, patches: &[Patch]) -> bool
     requires { IsTrue (list_all is_patch patches.now) }
     ensures { IsTrue result ↔ All (WritesApart reads.chunks) patches.now }
 {

@@ -3,6 +3,8 @@ pub mod ReadSteps
 pub mod WordsWritten
 pub mod KnownPrograms
 pub mod TablePlaces
+pub mod Written
+pub mod FilledRows
 pub mod FreshImages
 pub mod Turns
 pub mod CataloguePairs

@@ -8,4 +8,5 @@ pub mod RootFields
 pub mod Formats
 pub mod Faults
 pub mod Decided
+pub mod Filled
 pub mod Judged

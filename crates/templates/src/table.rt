@@ -1,8 +1,10 @@
 // The templates of all types.
 
-ghost use Rattle.std.specs.Prelude.{◌≡◌, ◌⊎◌, ◌↔◌, ℕ, List, ◌-◌, ◌≤◌, map, slice_set, Some, None, IsTrue, IfOk};
+ghost use Rattle.std.specs.Prelude.{◌≡◌, ◌⊎◌, ◌↔◌, ℕ, List, ◌+◌, ◌-◌, ◌≤◌, length, map, slice_set, Some, None, IsTrue, IfOk, IfSome};
 ghost use Rattle.std.specs.Option.{option_copied};
+ghost use Rattle.xn_model.specs.Lists.{put};
 ghost use Rattle.templates.specs.Decided.{DecidesOwned};
+ghost use Rattle.templates.specs.Filled.{Inserts};
 ghost use Rattle.templates.specs.Meaning.{numbers_of_pair};
 ghost use Rattle.templates.specs.Tables.{IsTable, no_templates, template_of, table_types};
 
@@ -142,6 +144,31 @@ impl Table {
         match self.get(ty) {
             Some(template) => owns_tracked(template.owns(), block, out),
             None => unreachable!(),
+        }
+    }
+
+    /// The chunks that decide which blocks a block of a type points to once bytes are written into it at a place, where these put exactly the blocks `adds`
+    /// into slots of it that named none, and leave the other pointers, as far as that is seen with no run of a program.
+    pub fn filled(
+        &self,
+        ty: u32,
+        old: &[u8; BLOCK_LEN],
+        at: usize,
+        bytes: &[u8],
+        adds: &[(u32, u32)],
+    ) -> Option<ReadSet>
+        requires { at + length bytes.now ≤ 512 }
+        ensures pairs { IfSome result (λ reads. Inserts (table_types self.now) ty old.now adds.now (put old.now at bytes.now)) }
+        ensures reads { IfSome result (λ reads. DecidesOwned (table_types self.now) ty (put old.now at bytes.now) reads.chunks) }
+    {
+        if is_leaf(ty) {
+            return None;
+        }
+        let rows = self.get(ty)?.rows()?;
+        if rows.is_fill(old, at, bytes, adds) {
+            Some(rows.reads())
+        } else {
+            None
         }
     }
 

@@ -1,10 +1,12 @@
 // A template, which is two checked programs.
 
-ghost use Rattle.std.specs.Prelude.{◌≡◌, SomeIff};
+ghost use Rattle.std.specs.Prelude.{◌≡◌, IfSome, SomeIff};
+ghost use Rattle.udf_run.specs.SlotRows.{EmitsRows};
 ghost use Rattle.templates.specs.Templates.{FitTogether, IsTemplate};
 
 use std::marker::Model;
 use udf_code::MAX_WORDS;
+use udf_run::SlotRows;
 use udf_verify::{Checked, Role};
 
 /// How the blocks of a type are read: the owns program emits the blocks that such a block points to, each with its type,
@@ -12,22 +14,29 @@ use udf_verify::{Checked, Role};
 pub struct Template {
     owns: Checked,
     size: Checked,
+    rows: Option<SlotRows>,
 }
 
 impl Model for Template {
+    ghost use Rattle.std.specs.Prelude.{IfSome};
+    ghost use Rattle.udf_run.specs.SlotRows.{EmitsRows};
     ghost use Rattle.templates.specs.Templates.{TemplateValue, IsTemplate};
 
     ghost Value = { TemplateValue };
 
     ghost view = { λ t. record { owns = t.owns; size = t.size } };
 
-    ghost invariant = { λ t. IsTemplate (record { owns = t.owns; size = t.size }) };
+    ghost invariant = { λ t. IsTemplate (record { owns = t.owns; size = t.size }) × IfSome t.rows (EmitsRows t.owns) };
 }
 
 /// Written by hand, so that a function that drops one calls this: a derived drop is proved anew in each such function.
 impl Drop for Template {
     fn drop(self) {
-        let Template { owns: _, size: _ } = self;
+        let Template {
+            owns: _,
+            size: _,
+            rows: _,
+        } = self;
     }
 }
 
@@ -41,7 +50,8 @@ impl Template {
         let is_size = size.role() == Role::Size;
         let count = owns.words().len() + size.words().len();
         if is_owns && is_size && count <= MAX_WORDS {
-            Some(Template { owns, size })
+            let rows = SlotRows::of(&owns);
+            Some(Template { owns, size, rows })
         } else {
             None
         }
@@ -61,5 +71,12 @@ impl Template {
         ensures template { IsTemplate self.now }
     {
         &self.size
+    }
+
+    /// The rows of slots that the owns program looks at, where it is known to do nothing more.
+    pub(crate) fn rows(&self) -> Option<&SlotRows>
+        ensures { IfSome result (λ rows. EmitsRows self.now.owns rows.now) }
+    {
+        self.rows.as_ref()
     }
 }

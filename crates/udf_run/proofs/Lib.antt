@@ -5,3 +5,5 @@ pub mod Sound
 pub mod Runs
 pub mod Branches
 pub mod SlotTurns
+pub mod RowTurns
+pub mod SlotPairs

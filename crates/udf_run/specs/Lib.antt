@@ -3,3 +3,5 @@ pub mod Openings
 pub mod Safe
 pub mod Remains
 pub mod ReadSets
+pub mod SlotRows
+pub mod Known

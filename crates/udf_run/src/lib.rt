@@ -5,14 +5,17 @@
 #![tactic(auto)]
 
 mod blocks;
+mod known;
 pub mod law;
 mod opening;
 pub mod pair;
 pub mod reads;
 pub mod run;
+pub mod slot_rows;
 mod slots;
 mod step;
 
 pub use pair::Pair;
 pub use reads::ReadSet;
 pub use run::{constant_size, owns, owns_tracked, size};
+pub use slot_rows::SlotRows;

@@ -15,6 +15,7 @@ pub mod Settling
 pub mod Slots
 pub mod Claiming
 pub mod Unclaimed
+pub mod Filling
 pub mod Newest
 pub mod NewestEntries
 pub mod ForCallers

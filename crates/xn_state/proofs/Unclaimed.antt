@@ -61,7 +61,7 @@ data_owns_nothing T state ty m h is =
 
 -- an edit of a block of data that claims nothing
 
-length_patched : (m : List ℕ) (ps : List Patch) → length m ≡ 512 → list_all is_patch ps ≡ true → length (patched m ps) ≡ 512
+pub length_patched : (m : List ℕ) (ps : List Patch) → length m ≡ 512 → list_all is_patch ps ≡ true → length (patched m ps) ≡ 512
 length_patched m [] long all = long
 length_patched m (p ∷ ps) long all =
     let parts = and_parts (is_patch p) (list_all is_patch ps) all in

@@ -25,12 +25,13 @@ last_tests T state b e ty new =
     ∷ (not (within_size T ty new), SizeWrong)
     ∷ []
 
--- an edit within the limits, of a block in use with this installed type and these newest bytes
+-- an edit within the limits, of a block in use with this installed type and these newest bytes, which adds blocks that a file system may add, each once
 pub record IsEditOf (T : Types) (state : StoreState) (b ty : ℕ) (old : List ℕ) (e : Edit) : Type 0 where
   pub alive : IsTrue (is_some (life_at state.lives b))
   pub installed : IsTrue (T.installed ty)
   pub newest : newest_at state.lives b ≡ Some (ty, old)
   pub limits : IsTrue (within_limits e)
+  pub added : (fs : ℕ) × IsTrue (list_all (may_add state fs) e.adds && distinct (blocks_of e.adds))
 
 -- what those tests answer of it: the first refusal that applies, or the chunks that decide what the block owns with its new bytes, where
 -- they are known

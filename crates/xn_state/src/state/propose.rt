@@ -1,6 +1,6 @@
 // A file system edits one of its blocks.
 
-ghost use Rattle.std.specs.Prelude.{◌≡◌, ◌<◌, ◌≤◌, ◌&&◌, ◌^◌, ◌-◌, length, is_some, IsTrue, IfErr, IfOk, IfSome, Ok, OnOk, Some};
+ghost use Rattle.std.specs.Prelude.{◌≡◌, ◌<◌, ◌≤◌, ◌&&◌, ◌^◌, ◌-◌, [], length, is_some, IsTrue, IfErr, IfOk, IfSome, Ok, OnOk, Some};
 ghost use Rattle.std.specs.List.{list_all};
 ghost use Rattle.xn_model.specs.Lists.{blocks_of, distinct, has_number};
 ghost use Rattle.xn_model.specs.Types.{named_once};
@@ -10,6 +10,7 @@ ghost use Rattle.xn_model.specs.Calls.{is_empty, life_bytes, life_pending, may_a
 ghost use Rattle.xn_model.specs.Rules.{IsConsistent};
 ghost use Rattle.claims.specs.Owners.{is_claimed, owned_count};
 ghost use Rattle.templates.specs.Decided.{DecidesOwned};
+ghost use Rattle.templates.specs.Filled.{Inserts};
 ghost use Rattle.claims.specs.Decided.{Decides, Leaves, newest_at};
 ghost use Rattle.xn_state.specs.Proposals.{IsEditOf, IsLeftBy, edited_with, proposed_of};
 ghost use Rattle.udf_run.specs.Safe.{IsBlock};
@@ -18,7 +19,7 @@ ghost use Rattle.xn_state.specs.States.{own_types};
 use crate::state::accept::Claims;
 use crate::state::{State, is_within_size};
 use block_cache::{Facts, NewBytes};
-use claims::{are_blocks_distinct, are_distinct, chain_end, leaves, names, owned_pairs};
+use claims::{are_apart, are_blocks_distinct, are_distinct, chain_end, leaves, names, owned_pairs};
 use edit_list::{Edit, EditId, Fs, Undo};
 use std::alloc::Global;
 use store_types::{BLOCK_LEN, DATA_TYPE, Refusal};
@@ -157,6 +158,30 @@ impl State {
         }
     }
 
+    /// The chunks that decide what a block owns that an edit leaves, where its first patch puts just the blocks that it adds into slots that named none, the
+    /// others write into none of those chunks, and it drops nothing. It takes no run, and no look at the block's other pointers.
+    fn filled(&self, ty: u32, old: &[u8; BLOCK_LEN], edit: &Edit) -> Option<ReadSet>
+        requires limits { IsTrue (within_limits edit.now) }
+        ensures no_drops { IfSome result (λ reads. edit.now.drops ≡ []) }
+        ensures inserts { IfSome result (λ reads. Inserts (own_types self.now) ty old.now edit.now.adds (patched old.now edit.now.patches)) }
+        ensures reads { IfSome result (λ reads. DecidesOwned (own_types self.now) ty (patched old.now edit.now.patches) reads.chunks) }
+    {
+        if edit.adds().is_empty() || !edit.drops().is_empty() {
+            return None;
+        }
+        let [first, others @ ..] = edit.patches.as_slice() else {
+            return None;
+        };
+        are_bytes(old, edit);
+        let at = usize::from(first.offset);
+        let reads = self.types().filled(ty, old, at, &first.bytes, edit.adds())?;
+        if are_apart(reads, others) {
+            Some(reads)
+        } else {
+            None
+        }
+    }
+
     /// The chunks that decide what a block of these bytes owns, where that has changed exactly as an edit claims, and each block
     /// is named once. It takes a run only where the edit claims something or writes into a chunk that decides it, or where these chunks are not known.
     fn claimed(&self, block: u32, ty: u32, new: &[u8; BLOCK_LEN], edit: &Edit) -> Option<ReadSet>
@@ -205,8 +230,8 @@ impl State {
         self.left_by_run(block, ty, old, edit)
     }
 
-    /// The same, by runs of the programs. Mostly the edit leaves what decides which blocks this one owns, and its type may use all bytes: then
-    /// no look at the new ones is needed.
+    /// The same, by runs of the programs. Mostly the type may use all bytes, and the edit leaves what decides which blocks this one owns, or only fills empty
+    /// slots with what it adds: then no look at the new bytes is needed.
     #[inline(never)]
     fn left_by_run(
         &self,
@@ -218,11 +243,14 @@ impl State {
         requires { IsEditOf (own_types self.now) self.now block ty old.now edit.now }
         ensures { IsLeftBy (own_types self.now) self.now block edit.now ty (patched old.now edit.now.patches) result }
     {
-        if self.types().may_use_all(ty)
-            && let Some(reads) = self.kept_reads(block, edit)
-        {
-            are_bytes(old, edit);
-            return Ok(Some(reads));
+        if self.types().may_use_all(ty) {
+            if let Some(reads) = self.kept_reads(block, edit) {
+                are_bytes(old, edit);
+                return Ok(Some(reads));
+            }
+            if let Some(reads) = self.filled(ty, old, edit) {
+                return Ok(Some(reads));
+            }
         }
         self.left_by_copy(block, ty, old, edit)
     }
