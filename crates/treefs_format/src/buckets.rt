@@ -1,6 +1,7 @@
 // Buckets of names: 384 or 512 bytes that begin with records.
 
-ghost use Rattle.std.specs.Prelude.{◌≡◌, ◌+◌, ◌≤◌, bytes_eq, length, IfOk, option_map};
+ghost use Rattle.std.specs.Prelude.{◌≡◌, ◌+◌, ◌≤◌, bytes_eq, length, IfOk, option_map, if◌then◌else◌, None, Some};
+ghost use Rattle.std.specs.Option.{option_or};
 ghost use Rattle.std.specs.Int.{w32, to_le_bytes};
 ghost use Rattle.treefs_format.specs.Buckets.{dead_record, live_entries, live_record, other_record, rewritten, room_behind, room_without};
 ghost use Rattle.treefs_format.specs.Left.{record_of};
@@ -86,12 +87,59 @@ pub fn live_record<'a>(bucket: &'a [u8], name: &[u8]) -> Option<Record<'a>>
     Records::new(bucket).find(|record| record.number != 0 && are_same(record.name, name))
 }
 
-/// The first dead record of a name.
-pub fn dead_record<'a>(bucket: &'a [u8], name: &[u8]) -> Option<Record<'a>>
-    requires { length bucket.now ≤ 512 }
-    ensures { option_map record_of result ≡ dead_record bucket.now name.now }
+/// What a bucket says of a name.
+pub struct Looked<'a> {
+    /// The first live record of the name.
+    pub live: Option<Record<'a>>,
+    /// The first dead one.
+    pub dead: Option<Record<'a>>,
+    /// How many bytes all records have.
+    pub lengths: RecordLengths,
+}
+
+/// The record that was found, or else the next one where it fits.
+#[inline(always)]
+fn first_of<'a>(found: Option<Record<'a>>, next: Record<'a>, fits: bool) -> Option<Record<'a>>
+    ensures { option_map record_of result ≡ option_or (option_map record_of found.entry) (if fits then Some (record_of next.entry) else None) }
 {
-    Records::new(bucket).find(|record| record.number == 0 && are_same(record.name, name))
+    match found {
+        Some(first) => Some(first),
+        None if fits => Some(next),
+        None => None,
+    }
+}
+
+/// The first live and the first dead record of a name, and how many bytes the records have, by one look at each record.
+pub fn look_for<'a>(bucket: &'a [u8], name: &[u8]) -> Looked<'a>
+    requires { length bucket.now ≤ 512 }
+    ensures live { option_map record_of result.live ≡ live_record bucket.now name.now }
+    ensures dead { option_map record_of result.dead ≡ dead_record bucket.now name.now }
+    ensures all_length { result.lengths.all ≡ end_of bucket.now }
+    ensures all_within { result.lengths.all ≤ length bucket.now }
+    ensures live_length { result.lengths.live ≡ total_length (live_entries bucket.now) }
+    ensures live_within { result.lengths.live ≤ length bucket.now }
+{
+    let mut live = None;
+    let mut dead = None;
+    let mut all = 0;
+    let mut living = 0;
+    for record in Records::new(bucket) {
+        let length = RECORD_HEAD + record.name.len();
+        let is_named = are_same(record.name, name);
+        all += length;
+        if record.number == 0 {
+            dead = first_of(dead, record, is_named);
+        } else {
+            living += length;
+            live = first_of(live, record, is_named);
+        }
+    }
+    let lengths = RecordLengths { all, live: living };
+    Looked {
+        live,
+        dead,
+        lengths,
+    }
 }
 
 /// The first record with a number but for the one at a place.

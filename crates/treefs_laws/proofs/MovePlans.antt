@@ -22,7 +22,7 @@ use Rattle.treefs_name_plans.specs.Ends.{ended_in, name_end, times_of}
 use Rattle.treefs_name_plans.specs.LinkPlans.{more_links, one_more}
 use Rattle.treefs_name_plans.specs.Moves.{IsAnyReplaceable, IsEmptyReplaceable, IsTakenReplaced, is_kind_directory, kinds_agree, moved_in}
 use Rattle.treefs_name_plans.specs.Namings.{IsReplaceable, naming_in}
-use Rattle.treefs_name_plans.specs.NewNames.{addition_in, taken_in}
+use Rattle.treefs_name_plans.specs.NewNames.{addition_in, place_in, taken_in}
 use Rattle.treefs_name_plans.specs.RenamePlans.{IsMovePlanned, IsRenamePlanned, apart_in_room, leads_to, linked_in_room, links_between, move_of, planned_move, rename_in, stands_in, together_in_room}
 use Rattle.treefs_name_plans.specs.declared.ended.Ended.{Ended}
 use Rattle.treefs_name_plans.specs.declared.link_change.LinkChange.{LinkChange}
@@ -112,7 +112,7 @@ module _ (state : StoreState) (volume : Volume) (d : ℕ) (name : List ℕ) (to 
               sym (roomy _ (planned_move moved naming (Apart links)) plan one.2),
             )
 
-    renamed_so : (plan : RenamePlan) (end : Option NameEnd) → rename_in state tree memory moved d to new end ≡ Ok plan →
+    renamed_so : (plan : RenamePlan) (end : Option NameEnd) → rename_in state tree memory moved d to (place_in state tree.fs.number tree.top to new) end ≡ Ok plan →
         (naming : Naming) × (naming_in state tree to moved.directory new end ≡ Ok naming) × LinkedIn plan naming
     renamed_so plan end e = by (not (d == to) && not (is_past state fs memory.last_dir)) e
       where
@@ -123,11 +123,11 @@ module _ (state : StoreState) (volume : Volume) (d : ℕ) (name : List ℕ) (to 
             let one = then_ok (naming_in state tree to moved.directory new end) (linked_in_room state tree memory moved to) plan e in
             (one.0, one.1, linked_so plan one.0 one.2)
 
-    moved_plan : (plan : RenamePlan) (end : Option NameEnd) → move_of (rename_in state tree memory moved d to new end) ≡ Ok (Some plan) →
-        rename_in state tree memory moved d to new end ≡ Ok plan
-    moved_plan plan end e = by (rename_in state tree memory moved d to new end) refl e
+    moved_plan : (plan : RenamePlan) (end : Option NameEnd) → move_of (rename_in state tree memory moved d to (place_in state tree.fs.number tree.top to new) end) ≡ Ok (Some plan) →
+        rename_in state tree memory moved d to (place_in state tree.fs.number tree.top to new) end ≡ Ok plan
+    moved_plan plan end e = by (rename_in state tree memory moved d to (place_in state tree.fs.number tree.top to new) end) refl e
       where
-        by : (r : Result RenamePlan Fault) → rename_in state tree memory moved d to new end ≡ r → move_of r ≡ Ok (Some plan) → rename_in state tree memory moved d to new end ≡ Ok plan
+        by : (r : Result RenamePlan Fault) → rename_in state tree memory moved d to (place_in state tree.fs.number tree.top to new) end ≡ r → move_of r ≡ Ok (Some plan) → rename_in state tree memory moved d to (place_in state tree.fs.number tree.top to new) end ≡ Ok plan
         by (Ok other) is e = is ∙ ap Ok (same_Some other plan (same_done (Some other) (Some plan) e))
         by (Err fault) is e = absurd (cc e)
 
@@ -214,9 +214,9 @@ module _ (state : StoreState) (volume : Volume) (d : ℕ) (name : List ℕ) (to 
 
       by_move : (moved : Moved) (m : IsMoved state volume d name to new moved) (o : Option Slot) → slot_named content key m.into.block new ≡ o → leads_to o moved.old.slot.number ≡ false →
           (replaced : Result (Option NameEnd) Fault) → IsTakenReplaced state tree memory moved.old.inode.kind to new o replaced → (plan : Option RenamePlan) →
-          ◌≡◌ {A = Result (Option RenamePlan) Fault} (Ok plan) (and_then replaced (λ end. move_of (rename_in state tree memory moved d to new end))) → Planned plan
+          ◌≡◌ {A = Result (Option RenamePlan) Fault} (Ok plan) (and_then replaced (λ end. move_of (rename_in state tree memory moved d to (place_in state tree.fs.number tree.top to new) end))) → Planned plan
       by_move moved m o is unlike (Err fault) told plan e = absurd (cc e)
-      by_move moved m o is unlike (Ok end) told None e = absurd (never (rename_in state tree memory moved d to new end) e)
+      by_move moved m o is unlike (Ok end) told None e = absurd (never (rename_in state tree memory moved d to (place_in state tree.fs.number tree.top to new) end) e)
         where
           never : (r : Result RenamePlan Fault) → ◌≡◌ {A = Result (Option RenamePlan) Fault} (Ok None) (move_of r) → ⊥
           never (Ok plan) e = absurd (cc e)

@@ -21,7 +21,7 @@ use Rattle.treefs_name_plans.specs.Ends.{ended_in}
 use Rattle.treefs_name_plans.specs.LinkPlans.{more_links}
 use Rattle.treefs_name_plans.specs.Moves.{IsAnyReplaceable, IsEmptyReplaceable, IsTakenReplaced, is_kind_directory, kinds_agree, moved_in}
 use Rattle.treefs_name_plans.specs.Namings.{IsReplaceable, naming_in}
-use Rattle.treefs_name_plans.specs.NewNames.{taken_in}
+use Rattle.treefs_name_plans.specs.NewNames.{place_in, taken_in}
 use Rattle.treefs_name_plans.specs.Removals.{HasBucket}
 use Rattle.treefs_name_plans.specs.RenamePlans.{IsMovePlanned, IsRenamePlanned, apart_in_room, leads_to, linked_in_room, move_of, rename_in, rename_plan, stands_in, together_in_room}
 use Rattle.treefs_name_plans.specs.declared.ended.Ended.{Ended}
@@ -119,7 +119,7 @@ module _ (T : Types) (state : StoreState) (volume : Volume) (kept : IsKept T sta
           | inr more ↦ inl (full_or _ _ g more.2)
         ]
 
-    no_rename : (end : Option NameEnd) → rename_in state tree memory moved d to new end ≡ Err g → IsNoPlace g
+    no_rename : (end : Option NameEnd) → rename_in state tree memory moved d to (place_in state tree.fs.number tree.top to new) end ≡ Err g → IsNoPlace g
     no_rename end e = by (not (d == to) && not (is_past state fs memory.last_dir)) e
       where
         by : (t : Bool) → (if t then Err Full else and_then (naming_in state tree to moved.directory new end) (linked_in_room state tree memory moved to)) ≡ Err g → IsNoPlace g
@@ -129,10 +129,10 @@ module _ (T : Types) (state : StoreState) (volume : Volume) (kept : IsKept T sta
           | inr naming ↦ no_links naming.0 naming.2
         ]
 
-    no_move : (end : Option NameEnd) → move_of (rename_in state tree memory moved d to new end) ≡ Err g → IsNoPlace g
-    no_move end e = by (rename_in state tree memory moved d to new end) refl e
+    no_move : (end : Option NameEnd) → move_of (rename_in state tree memory moved d to (place_in state tree.fs.number tree.top to new) end) ≡ Err g → IsNoPlace g
+    no_move end e = by (rename_in state tree memory moved d to (place_in state tree.fs.number tree.top to new) end) refl e
       where
-        by : (r : Result RenamePlan Fault) → rename_in state tree memory moved d to new end ≡ r → move_of r ≡ Err g → IsNoPlace g
+        by : (r : Result RenamePlan Fault) → rename_in state tree memory moved d to (place_in state tree.fs.number tree.top to new) end ≡ r → move_of r ≡ Err g → IsNoPlace g
         by (Ok plan) is e = absurd (cc e)
         by (Err fault) is e = no_rename end (is ∙ ap Err (same_fault fault g e))
 
@@ -238,12 +238,12 @@ module _ (T : Types) (state : StoreState) (volume : Volume) (kept : IsKept T sta
     by_slot : (o : Option Slot) → slot_named content key m.into.block new ≡ o → MatchBool (leads_to o n) (◌≡◌ {A = Result (Option RenamePlan) Fault} (Err g) (Ok None)) (Planned o) →
         NotMoved ⊎ IsNoPlace g
     by_slot None is (replaced, told, e) =
-        inr (no_move None (sym (ap (λ r. and_then r (λ end. move_of (rename_in state tree memory moved d to new end))) told) ∙ sym e))
+        inr (no_move None (sym (ap (λ r. and_then r (λ end. move_of (rename_in state tree memory moved d to (place_in state tree.fs.number tree.top to new) end))) told) ∙ sym e))
     by_slot (Some slot) is p = by_number (slot.number == n) refl p
       where
         by_number : (t : Bool) → (slot.number == n) ≡ t → MatchBool t (◌≡◌ {A = Result (Option RenamePlan) Fault} (Err g) (Ok None)) (Planned (Some slot)) → NotMoved ⊎ IsNoPlace g
         by_number true h e = absurd (cc e)
-        by_number false h (replaced, told, e) = elim (then_fails replaced (λ end. move_of (rename_in state tree memory moved d to new end)) g (sym e)) [
+        by_number false h (replaced, told, e) = elim (then_fails replaced (λ end. move_of (rename_in state tree memory moved d to (place_in state tree.fs.number tree.top to new) end)) g (sym e)) [
           | inl none ↦ not_taken slot is h replaced told none
           | inr some ↦ inr (no_move some.0 some.2)
         ]

@@ -43,6 +43,15 @@ module _ {A : Type 0} (has : ℕ → Option A) (hash level : ℕ) where
   pub first_none : 9 ≤ level → first_some has (later hash level) ≡ None
   first_none ge = ap (first_some has) (later_none hash level ge)
 
+  -- behind what was found before
+  pub first_more : (found : Option A) → level < 9 → option_or found (first_some has (later hash level)) ≡ option_or (option_or found (has (candidate hash level))) (first_some has (later hash (level + 1)))
+  first_more (Some x) lt = refl
+  first_more None lt = ap (first_some has) (later_more hash level lt)
+
+  pub no_more : (found : Option A) → 9 ≤ level → option_or found (first_some has (later hash level)) ≡ found
+  no_more (Some x) ge = refl
+  no_more None ge = first_none ge
+
 module _ (test : ℕ → Bool) (hash level : ℕ) where
   pub any_more : level < 9 → list_any test (later hash level) ≡ (test (candidate hash level) || list_any test (later hash (level + 1)))
   any_more lt = ap (list_any test) (later_more hash level lt)

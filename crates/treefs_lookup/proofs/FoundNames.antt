@@ -7,7 +7,7 @@ use Rattle.treefs_format.specs.Candidates.{name_hash}
 use Rattle.treefs_format.specs.Records.{Record}
 use Rattle.treefs_model.specs.Reading.{bucket_of}
 use Rattle.treefs_lookup.specs.Buckets.{IsBucket, bucket_block, bucket_start}
-use Rattle.treefs_lookup.specs.Names.{dead_in, dead_of, dead_place, first_some, fits_without, room_at, room_or_new, slot_in, slot_named, slot_of}
+use Rattle.treefs_lookup.specs.Names.{dead_in, dead_of, dead_of_bucket, dead_place, first_some, fits_without, room_at, room_of, room_or_new, slot_in, slot_named, slot_of, slot_of_bucket}
 use Rattle.treefs_lookup.specs.Readable.{readable}
 use Rattle.treefs_lookup.specs.declared.bucket.Bucket.{Bucket}
 use Rattle.treefs_lookup.proofs.Candidates.{later, later_first}
@@ -18,14 +18,14 @@ module _ (content : ℕ → List ℕ) (inode n : ℕ) (name : List ℕ) (bucket 
       option_map (at bucket.block bucket.start) found ≡ option_map (at (bucket_block content inode n) (bucket_start n)) found
   there at found = ap (λ b. option_map (at b bucket.start) found) is.block ∙ ap (λ s. option_map (at (bucket_block content inode n) s) found) is.start
 
-  pub slot_found : (found : Option Record) → found ≡ live_record bucket.bytes.now name → slot_in content inode name n ≡ option_map (slot_of bucket.block bucket.start) found
-  slot_found found e = sym (there slot_of found ∙ ap (option_map (slot_of (bucket_block content inode n) (bucket_start n))) (e ∙ ap (λ b. live_record b name) is.bytes))
+  pub slot_found : slot_in content inode name n ≡ slot_of_bucket name bucket
+  slot_found = sym (there slot_of (live_record bucket.bytes.now name) ∙ ap (λ b. option_map (slot_of (bucket_block content inode n) (bucket_start n)) (live_record b name)) is.bytes)
 
-  pub dead_found : (found : Option Record) → found ≡ dead_record bucket.bytes.now name → dead_in content inode name n ≡ option_map (dead_of bucket.block bucket.start) found
-  dead_found found e = sym (there dead_of found ∙ ap (option_map (dead_of (bucket_block content inode n) (bucket_start n))) (e ∙ ap (λ b. dead_record b name) is.bytes))
+  pub dead_found : dead_in content inode name n ≡ dead_of_bucket name bucket
+  dead_found = sym (there dead_of (dead_record bucket.bytes.now name) ∙ ap (λ b. option_map (dead_of (bucket_block content inode n) (bucket_start n)) (dead_record b name)) is.bytes)
 
 pub room_found : (state : StoreState) (fs inode n : ℕ) (name : List ℕ) (bucket : Bucket) → IsBucket (readable state fs) inode n bucket →
-    room_at state fs inode name n ≡ room_or_new bucket.number bucket.bytes.now bucket.block bucket.start (newest_entry_of state bucket.block) name
+    room_at state fs inode name n ≡ room_of state name bucket
 room_found state fs inode n name bucket is =
     let block = bucket_block (readable state fs) inode n in
     let bytes = bucket_of (readable state fs) inode n in

@@ -19,7 +19,9 @@ use Rattle.treefs_model.specs.declared.fault.Fault.TheVariants.{NoEntry, BadName
 use Rattle.treefs_lookup.specs.Buckets.{bucket_block, bucket_start}
 use Rattle.treefs_lookup.specs.Inodes.{directory_found}
 use Rattle.treefs_lookup.specs.Readable.{readable}
+use Rattle.treefs_lookup.specs.declared.bucket.Bucket.{Bucket}
 use Rattle.treefs_lookup.specs.declared.names.Slot.{Slot}
+use Rattle.treefs_lookup.specs.declared.places.Seen.{Seen}
 use Rattle.treefs_lookup.specs.declared.places.NamePlace.{NamePlace}
 use Rattle.treefs_lookup.specs.declared.places.NamePlace.TheVariants.{DeadRecord, Behind, Rewritten, NewBucket}
 
@@ -79,9 +81,25 @@ room_at state fs inode name bucket =
     let block = bucket_block content inode bucket in
     room_or_new bucket (bucket_of content inode bucket) block (bucket_start bucket) (newest_entry_of state block) name
 
+-- the same of a bucket that was read
+abbrev pub slot_of_bucket : List ℕ → Bucket → Option Slot
+slot_of_bucket name bucket = option_map (slot_of bucket.block bucket.start) (live_record bucket.bytes.now name)
+
+abbrev pub dead_of_bucket : List ℕ → Bucket → Option NamePlace
+dead_of_bucket name bucket = option_map (dead_of bucket.block bucket.start) (dead_record bucket.bytes.now name)
+
+abbrev pub room_of : StoreState → List ℕ → Bucket → Option NamePlace
+room_of state name bucket = room_or_new bucket.number bucket.bytes.now bucket.block bucket.start (newest_entry_of state bucket.block) name
+
 -- where none has a place, dead records may be in the way
+abbrev pub way_fault : Bool → Fault
+way_fault in_the_way = if in_the_way then Full else TooLarge
+
+abbrev pub free_or_fault : Seen → Result NamePlace Fault
+free_or_fault seen = ok_or seen.room (way_fault seen.in_the_way)
+
 abbrev pub no_place : (ℕ → List ℕ) → ℕ → List ℕ → List ℕ → Fault
-no_place content inode name buckets = if list_any (λ bucket. fits_without (bucket_of content inode bucket) name) buckets then Full else TooLarge
+no_place content inode name buckets = way_fault (list_any (λ bucket. fits_without (bucket_of content inode bucket) name) buckets)
 
 unfoldable pub dead_place : (ℕ → List ℕ) → ℕ → ℕ → List ℕ → Option NamePlace
 dead_place content hash inode name = first_some (dead_in content inode name) (candidates hash)

@@ -28,6 +28,6 @@ pub use numbers::find_number;
 pub use paths::{
     Reach, find_holder, find_leaf, leaf_block, leaves_beside, path_blocks, pointer_offset, walk,
 };
-pub use places::{NamePlace, find_place};
+pub use places::{NameLook, NamePlace, look_for_name};
 pub use sought::{Sought, next_bucket};
 pub use trimmed::{is_blank_past, is_trimmed, stands_past};

@@ -1,5 +1,5 @@
 -- A name comes to lead to an inode: a record is made, or the one that the name has is used again.
---     naming_in              where its record stands; the faults are the directory's, then `Full`, `TooLarge`
+--     naming_for, naming_in  where its record stands, by the place of a new one; the faults are the directory's, then `Full`, `TooLarge`
 --     naming_starts, naming_rewriting, naming_acts, naming_ends     the blocks that are begun for it, and its acts
 --     naming_block           the block of its record
 --     naming_parts           in which blocks how many entries may come to be pending for it
@@ -12,13 +12,15 @@ use Rattle.treefs_model.specs.declared.fault.Fault.{Fault}
 use Rattle.treefs_model.specs.declared.fault.Fault.TheVariants.{Full}
 use Rattle.treefs_model.specs.Acts.{Act, number_act}
 use Rattle.treefs_model.specs.Files.{and_then}
+use Rattle.treefs_lookup.specs.Readable.{readable}
+use Rattle.treefs_lookup.specs.declared.places.NamePlace.{NamePlace}
 use Rattle.treefs_edits.specs.declared.start.Start.{Start}
 use Rattle.treefs_edits.specs.declared.tree.Tree.{Tree}
 use Rattle.treefs_edits.specs.Memories.{Memory}
 use Rattle.treefs_name_plans.specs.Additions.{addition_acts, addition_starts, last_block, rewriting}
 use Rattle.treefs_name_plans.specs.Ends.{IsOther, name_end}
 use Rattle.treefs_name_plans.specs.Links.{link_act}
-use Rattle.treefs_name_plans.specs.NewNames.{addition_in, addition_parts}
+use Rattle.treefs_name_plans.specs.NewNames.{addition_for, addition_parts, place_in}
 use Rattle.treefs_name_plans.specs.declared.addition.Addition.TheVariants.{Behind, Rewritten, Made}
 use Rattle.treefs_name_plans.specs.declared.ended.Ended.{Ended}
 use Rattle.treefs_name_plans.specs.declared.name_end.NameEnd.{NameEnd}
@@ -26,9 +28,13 @@ pub use Rattle.treefs_name_plans.specs.declared.naming.Naming.{Naming}
 use Rattle.treefs_name_plans.specs.declared.naming.Naming.TheVariants.{Added, Replaced}
 
 -- directory: its inode block; replaced: what the end of the name changes that is there
+abbrev pub naming_for : (ℕ → List ℕ) → ℕ → ℕ → Result NamePlace Fault → Option NameEnd → Result Naming Fault
+naming_for content node_type directory place None = and_then (addition_for content node_type directory place) (λ addition. Ok (Added addition))
+naming_for content node_type directory place (Some end) = Ok (Replaced end)
+
 abbrev pub naming_in : StoreState → Tree → ℕ → ℕ → List ℕ → Option NameEnd → Result Naming Fault
-naming_in state tree d directory name None = and_then (addition_in state tree d directory name) (λ addition. Ok (Added addition))
-naming_in state tree d directory name (Some end) = Ok (Replaced end)
+naming_in state tree d directory name replaced =
+    naming_for (readable state tree.fs.number) tree.node_type directory (place_in state tree.fs.number tree.top d name) replaced
 
 -- What it does
 

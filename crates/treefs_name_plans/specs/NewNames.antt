@@ -3,7 +3,7 @@
 --     directory_for     the directory that is to have a name: its faults, then `BadName`
 --     free_name         the directory, where it does not have the name yet: its faults, then `BadName`, `Exists`
 --     addition_at       what a place for the record takes
---     addition_in       where the record of a new name goes; the faults are the directory's, then `Full`, `TooLarge`
+--     addition_for, addition_in       where the record of a new name goes; the faults are the directory's, then `Full`, `TooLarge`
 --     addition_parts    in which blocks how many entries may come to be pending for it
 --     IsWithinBlocks    a place begins within its block, and a bucket that is to be made is a leaf
 use Rattle.std.specs.Prelude.{ℕ, ◌+◌, ◌-◌, ◌==◌, ◌<◌, ◌≤◌, List, [], ◌∷◌, length, Option, None, Some, Result, Ok, Err, if◌then◌else◌}
@@ -65,9 +65,12 @@ abbrev pub place_in : StoreState → ℕ → ℕ → ℕ → List ℕ → Result
 place_in state fs top d name =
     and_then (directory_found (readable state fs) top d) (λ directory. place_of state fs (key_in (readable state fs) top) directory.block name)
 
+-- by the place that was found for it
+abbrev pub addition_for : (ℕ → List ℕ) → ℕ → ℕ → Result NamePlace Fault → Result Addition Fault
+addition_for content node_type directory place = and_then place (λ place. Ok (addition_at content node_type directory place))
+
 abbrev pub addition_in : StoreState → Tree → ℕ → ℕ → List ℕ → Result Addition Fault
-addition_in state tree d directory name =
-    and_then (place_in state tree.fs.number tree.top d name) (λ place. Ok (addition_at (readable state tree.fs.number) tree.node_type directory place))
+addition_in state tree d directory name = addition_for (readable state tree.fs.number) tree.node_type directory (place_in state tree.fs.number tree.top d name)
 
 abbrev pub addition_parts : Addition → ℕ → List (ℕ × ℕ)
 addition_parts (Behind block offset) directory = (block, 3) ∷ (directory, 3) ∷ []

@@ -16,6 +16,7 @@ use Rattle.treefs_model.specs.Acts.{Act, number_act, one_patch, patch_act}
 use Rattle.treefs_model.specs.Files.{and_then}
 use Rattle.treefs_lookup.specs.Readable.{readable}
 use Rattle.treefs_lookup.specs.declared.names.Slot.{Slot}
+use Rattle.treefs_lookup.specs.declared.places.NamePlace.{NamePlace}
 use Rattle.treefs_edits.specs.declared.tree.Tree.{Tree}
 use Rattle.treefs_edits.specs.Memories.{Memory, is_past, newest_times}
 use Rattle.treefs_edits.specs.Plans.{Plan}
@@ -25,8 +26,8 @@ use Rattle.treefs_name_plans.specs.Ends.{times_of}
 use Rattle.treefs_name_plans.specs.LinkPlans.{holder_of, more_links}
 use Rattle.treefs_name_plans.specs.Links.{link_act}
 use Rattle.treefs_name_plans.specs.Moves.{IsTakenReplaced, is_kind_directory, moved_in}
-use Rattle.treefs_name_plans.specs.Namings.{naming_acts, naming_block, naming_ends, naming_in, naming_parts, naming_rewriting, naming_starts}
-use Rattle.treefs_name_plans.specs.NewNames.{taken_in}
+use Rattle.treefs_name_plans.specs.Namings.{naming_acts, naming_block, naming_ends, naming_for, naming_parts, naming_rewriting, naming_starts}
+use Rattle.treefs_name_plans.specs.NewNames.{place_in, taken_in}
 use Rattle.treefs_name_plans.specs.declared.addition.Addition.TheVariants.{Behind, Rewritten, Made}
 use Rattle.treefs_name_plans.specs.declared.addition.OldBucket.{OldBucket}
 use Rattle.treefs_name_plans.specs.declared.link_change.LinkChange.{LinkChange}
@@ -141,11 +142,11 @@ linked_in_room state tree memory moved d naming =
     if stands_in naming moved.old.slot.block then together_in_room state tree memory moved naming
     else and_then (more_links memory moved.old.slot.number moved.old.inode) (apart_in_room state tree memory moved d naming)
 
--- from d to d', where the directories' records that were made or moved before are durable
-abbrev pub rename_in : StoreState → Tree → Memory → Moved → ℕ → ℕ → List ℕ → Option NameEnd → Result RenamePlan Fault
-rename_in state tree memory moved d d' name replaced =
+-- from d to d', where the directories' records that were made or moved before are durable; by the place of a new record
+abbrev pub rename_in : StoreState → Tree → Memory → Moved → ℕ → ℕ → Result NamePlace Fault → Option NameEnd → Result RenamePlan Fault
+rename_in state tree memory moved d d' place replaced =
     if not (d == d') && not (is_past state tree.fs.number memory.last_dir) then Err Full
-    else and_then (naming_in state tree d' moved.directory name replaced) (linked_in_room state tree memory moved d')
+    else and_then (naming_for (readable state tree.fs.number) tree.node_type moved.directory place replaced) (linked_in_room state tree memory moved d')
 
 -- What is done
 
@@ -160,7 +161,7 @@ move_of (Err fault) = Err fault
 abbrev pub IsMovePlanned : StoreState → Tree → Memory → Moved → ℕ → ℕ → List ℕ → Option Slot → Result (Option RenamePlan) Fault → Type 0
 IsMovePlanned state tree memory moved d d' name taken result =
     (replaced : Result (Option NameEnd) Fault) × IsTakenReplaced state tree memory moved.old.inode.kind d' name taken replaced
-    × (result ≡ and_then replaced (λ end. move_of (rename_in state tree memory moved d d' name end)))
+    × (result ≡ and_then replaced (λ end. move_of (rename_in state tree memory moved d d' (place_in state tree.fs.number tree.top d' name) end)))
 
 -- Ok None: the new name leads to the inode already, and nothing is done
 abbrev pub IsRenamePlanned : StoreState → Tree → Memory → ℕ → List ℕ → ℕ → List ℕ → Result (Option RenamePlan) Fault → Type 0

@@ -2,16 +2,16 @@
 
 ghost use Rattle.std.specs.Prelude.{◌≡◌, ◌≤◌, length, OnOk};
 ghost use Rattle.treefs_format.specs.Paths.{leaf_count};
-ghost use Rattle.treefs_name_plans.specs.CommitPlans.{IsCommitPlanned, IsReplaced, IsTarget, commit_in_room};
+ghost use Rattle.treefs_name_plans.specs.CommitPlans.{IsCommitPlanned, IsReplaced, IsTargetOf, commit_in_room};
 
 use crate::commit_plan::CommitPlan;
 use crate::endings::find_ended_file;
 use crate::name_end::NameEnd;
 use crate::naming::Naming;
 use crate::namings::{find_naming, find_replaceable};
-use crate::new_names::{find_directory_for, find_taken};
+use crate::new_names::look_up;
 use treefs_edits::{Memory, Tree, has_room, have_room};
-use treefs_lookup::{find_leaf, find_number};
+use treefs_lookup::{Slot, find_leaf, find_number};
 use treefs_model::Fault;
 use xn_state::Store;
 
@@ -61,19 +61,20 @@ fn find_replaced<S: Store>(
     find_replaceable(store, tree, memory, &ended)
 }
 
-/// The end of a name of a directory that is replaced; `None` where it isn't there. The faults are `Exists` where it is not to be replaced, and
-/// those of the name that ends.
+/// The end of a name of a directory that is replaced, where this record has it; `None` where none has. The faults are `Exists` where it is not to be
+/// replaced, and those of the name that ends.
 fn find_target<S: Store>(
     store: &S,
     tree: Tree,
     memory: &Memory,
     directory: u32,
     name: &[u8],
+    taken: Option<Slot>,
     replace: bool,
 ) -> Result<Option<NameEnd>, Fault>
-    ensures { IsTarget (S.state_of store.now) tree memory.now directory name.now replace result }
+    ensures { IsTargetOf (S.state_of store.now) tree memory.now directory name.now replace result taken }
 {
-    if find_taken(store, tree, directory, name)?.is_none() {
+    if taken.is_none() {
         return Ok(None);
     }
     if !replace {
@@ -99,9 +100,9 @@ pub fn plan_commit<S: Store>(
     ensures planned { IsCommitPlanned (S.state_of store.now) tree memory.now directory name.now replace result }
     ensures short { OnOk result (length name.now ≤ 255) }
 {
-    let block = find_directory_for(store, tree, directory, name)?.block;
-    let replaced = find_target(store, tree, memory, directory, name, replace)?;
+    let found = look_up(store, tree, directory, name)?;
+    let replaced = find_target(store, tree, memory, directory, name, found.taken, replace)?;
     let number = find_number(store, tree.fs, tree.top, memory.hint)?;
-    let naming = find_naming(store, tree, directory, block, name, replaced)?;
-    commit_in_room(store, tree, memory, 30, number, block, naming)
+    let naming = find_naming(store, tree, found.directory, found.place, replaced)?;
+    commit_in_room(store, tree, memory, 30, number, found.directory, naming)
 }

@@ -1,13 +1,16 @@
 // How a new inode gets its first name.
 
-ghost use Rattle.std.specs.Prelude.{◌≡◌, ◌≤◌, length, OnOk};
+ghost use Rattle.std.specs.Prelude.{◌≡◌, ◌≤◌, length, IfOk, Ok, OnOk};
+ghost use Rattle.treefs_model.specs.Files.{and_then};
 ghost use Rattle.treefs_format.specs.Paths.{leaf_count};
+ghost use Rattle.treefs_lookup.specs.Readable.{readable};
+ghost use Rattle.treefs_name_plans.specs.NewNames.{IsWithinBlocks, place_in};
 ghost use Rattle.treefs_name_plans.specs.NewPlans.{IsNewPlanned, free_in_room, new_in_room};
 
 use crate::addition::Addition;
 use crate::commit::commit_in_room;
 use crate::naming::Naming;
-use crate::new_names::{find_addition, find_free_name};
+use crate::new_names::{LookedUp, find_addition, find_free_name};
 use crate::new_plan::NewPlan;
 use store_types::BLOCK_LEN;
 use treefs_edits::{Memory, Tree, has_room};
@@ -15,23 +18,25 @@ use treefs_lookup::find_number;
 use treefs_model::Fault;
 use xn_state::Store;
 
-/// The inode block of a directory that does not have a name yet, where there is room for a first block. The faults are those of the
-/// directory, `BadName`, `Exists`, and `Full`.
+/// A name that a directory does not have yet, where there is room for a first block. The faults are those of the directory, `BadName`, `Exists`, and
+/// `Full`.
 fn find_free_in_room<S: Store>(
     store: &S,
     tree: Tree,
     memory: &Memory,
     directory: u32,
     name: &[u8],
-) -> Result<u32, Fault>
-    ensures planned { result ≡ free_in_room (S.state_of store.now) tree memory.now directory name.now }
+) -> Result<LookedUp, Fault>
+    ensures planned { and_then result (λ found. Ok found.directory) ≡ free_in_room (S.state_of store.now) tree memory.now directory name.now }
+    ensures place { IfOk result (λ found. found.place ≡ place_in (S.state_of store.now) tree.fs.number tree.top directory name.now) }
+    ensures within { IfOk result (λ found. IfOk found.place (IsWithinBlocks (readable (S.state_of store.now) tree.fs.number))) }
     ensures short { OnOk result (length name.now ≤ 255) }
 {
-    let block = find_free_name(store, tree, directory, name)?;
+    let found = find_free_name(store, tree, directory, name)?;
     if !has_room(store, tree.fs, memory.touched.len(), 2, &[]) {
         return Err(Fault::Full);
     }
-    Ok(block)
+    Ok(found)
 }
 
 /// What a new inode with its first name takes, where there is room for it; else the fault is `Full`.
@@ -68,8 +73,8 @@ pub fn plan_new<S: Store>(
     ensures planned { IsNewPlanned (S.state_of store.now) tree memory.now directory name.now inode.now result }
     ensures short { OnOk result (length name.now ≤ 255) }
 {
-    let block = find_free_in_room(store, tree, memory, directory, name)?;
+    let free = find_free_in_room(store, tree, memory, directory, name)?;
     let number = find_number(store, tree.fs, tree.top, memory.hint)?;
-    let addition = find_addition(store, tree, directory, block, name)?;
-    new_in_room(store, tree, memory, number, block, inode, addition)
+    let addition = find_addition(store, tree, free.directory, free.place)?;
+    new_in_room(store, tree, memory, number, free.directory, inode, addition)
 }

@@ -71,10 +71,10 @@ pub fn plan_link<S: Store>(
 {
     let _ = find_directory(store, tree.fs, tree.top, directory)?;
     let inode = find_linkable(store, tree, number)?;
-    let block = find_free_name(store, tree, directory, name)?;
-    let addition = find_addition(store, tree, directory, block, name)?;
+    let free = find_free_name(store, tree, directory, name)?;
+    let addition = find_addition(store, tree, free.directory, free.place)?;
     let more = more_links(memory, number, &inode)?;
-    link_in_room(store, tree, memory, number, block, addition, more)
+    link_in_room(store, tree, memory, number, free.directory, addition, more)
 }
 
 /// What one more name of an inode takes, where there is room for it; else the fault is `Full`.

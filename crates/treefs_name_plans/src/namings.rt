@@ -3,7 +3,8 @@
 ghost use Rattle.std.specs.Prelude.{◌≡◌, ◌≤◌, ◌++◌, length, IfOk};
 ghost use Rattle.treefs_lookup.specs.Readable.{readable};
 ghost use Rattle.treefs_name_plans.specs.Ends.{IsWithin};
-ghost use Rattle.treefs_name_plans.specs.Namings.{IsReplaceable, if_written, naming_acts, naming_block, naming_ends, naming_in, naming_parts, naming_rewriting, naming_starts};
+ghost use Rattle.treefs_name_plans.specs.NewNames.{IsWithinBlocks};
+ghost use Rattle.treefs_name_plans.specs.Namings.{IsReplaceable, if_written, naming_acts, naming_block, naming_ends, naming_for, naming_parts, naming_rewriting, naming_starts};
 
 use crate::addition::Addition;
 use crate::ended::Ended;
@@ -15,24 +16,26 @@ use crate::new_names::{addition_parts, find_addition};
 use crate::other_names::find_behind;
 use std::alloc::{AllocError, Global};
 use treefs_edits::{Act, Memory, Start, Tree, kinds};
+use treefs_lookup::NamePlace;
 use treefs_model::Fault;
 use xn_state::Store;
 
-/// Where the record of a name stands in a directory whose inode block is `block`. The faults are those of the directory, `Full`, and `TooLarge`.
+/// Where the record of a name stands in the directory with this inode block, by the place that was found for a new one. The faults are `Full`, and
+/// `TooLarge`.
 pub fn find_naming<S: Store>(
     store: &S,
     tree: Tree,
     directory: u32,
-    block: u32,
-    name: &[u8],
+    place: Result<NamePlace, Fault>,
     replaced: Option<NameEnd>,
 ) -> Result<Naming, Fault>
-    ensures { result ≡ naming_in (S.state_of store.now) tree directory block name.now replaced }
+    requires { IfOk place (IsWithinBlocks (readable (S.state_of store.now) tree.fs.number)) }
+    ensures { result ≡ naming_for (readable (S.state_of store.now) tree.fs.number) tree.node_type directory place replaced }
 {
     match replaced {
         Some(end) => Ok(Naming::Replaced(end)),
         None => {
-            let addition = find_addition(store, tree, directory, block, name)?;
+            let addition = find_addition(store, tree, directory, place)?;
             Ok(Naming::Added(addition))
         }
     }

@@ -2,13 +2,14 @@
 
 ghost use Rattle.std.specs.Prelude.{◌≡◌, ◌<◌, ◌≤◌, ◌-◌, ℕ, List, Ok, length, true, IfOk, OnOk};
 ghost use Rattle.xn_model.specs.Lives.{StoreState};
+ghost use Rattle.treefs_model.specs.Files.{and_then};
 ghost use Rattle.treefs_lookup.specs.Names.{place_of};
 ghost use Rattle.treefs_format.specs.Names.{is_name};
 ghost use Rattle.treefs_format.specs.Paths.{leaf_count, steps};
 ghost use Rattle.treefs_lookup.specs.Readable.{readable};
 ghost use Rattle.treefs_lookup.specs.Walks.{reach};
 ghost use Rattle.treefs_lookup.specs.declared.places.NamePlace.{NamePlace};
-ghost use Rattle.treefs_name_plans.specs.NewNames.{IsWithinBlocks, addition_at, addition_in, addition_parts, directory_for, free_name, made_at, place_in, taken_in};
+ghost use Rattle.treefs_name_plans.specs.NewNames.{IsWithinBlocks, addition_at, addition_for, addition_parts, directory_for, free_name, made_at, place_in, taken_in};
 
 use crate::addition::{Addition, NewBucket, OldBucket};
 use crate::slots::narrow;
@@ -17,7 +18,7 @@ use treefs_edits::Tree;
 use treefs_format::inodes::CONTENT;
 use treefs_format::is_name;
 use treefs_lookup::{
-    Found, NamePlace, Slot, find_directory, find_entry, find_leaf, find_place, read_block, read_key,
+    Found, NamePlace, Slot, find_directory, find_leaf, look_for_name, read_block, read_key,
 };
 use treefs_model::Fault;
 use xn_state::Store;
@@ -51,55 +52,61 @@ pub fn find_directory_for<S: Store>(
     Ok(found)
 }
 
-/// The record that has a name of a directory; `None` where it isn't there. The faults are those of the directory, and `BadName`.
-pub fn find_taken<S: Store>(
+/// A name of a directory, which has it or not.
+#[derive(Clone, Copy)]
+pub struct LookedUp {
+    /// The inode block of the directory.
+    pub directory: u32,
+    /// The record that has the name.
+    pub taken: Option<Slot>,
+    /// Where it would go as a new one. The faults are `Full`, and `TooLarge`.
+    pub place: Result<NamePlace, Fault>,
+}
+
+/// A name of a directory. The faults are those of the directory, and `BadName`.
+pub fn look_up<S: Store>(
     store: &S,
     tree: Tree,
     directory: u32,
     name: &[u8],
-) -> Result<Option<Slot>, Fault>
-    ensures { result ≡ taken_in (readable (S.state_of store.now) tree.fs.number) tree.top directory name.now }
+) -> Result<LookedUp, Fault>
+    ensures directory { and_then result (λ found. Ok found.directory)
+        ≡ and_then (directory_for (readable (S.state_of store.now) tree.fs.number) tree.top directory name.now) (λ found. Ok found.block) }
+    ensures taken { IfOk result (λ found. taken_in (readable (S.state_of store.now) tree.fs.number) tree.top directory name.now ≡ Ok found.taken) }
+    ensures place { IfOk result (λ found. found.place ≡ place_in (S.state_of store.now) tree.fs.number tree.top directory name.now) }
+    ensures within { IfOk result (λ found. IfOk found.place (IsWithinBlocks (readable (S.state_of store.now) tree.fs.number))) }
+    ensures short { OnOk result (length name.now ≤ 255) }
 {
-    match find_entry(store, tree.fs, tree.top, directory, name) {
-        Ok(slot) => Ok(Some(slot)),
-        Err(Fault::NoEntry) => Ok(None),
-        Err(fault) => Err(fault),
-    }
+    places_are_within();
+    let block = find_directory_for(store, tree, directory, name)?.block;
+    let Some(key) = read_key(store, tree.fs, tree.top) else {
+        unreachable!();
+    };
+    let look = look_for_name(store, tree.fs, &key, block, name);
+    Ok(LookedUp {
+        directory: block,
+        taken: look.taken,
+        place: look.place,
+    })
 }
 
-/// The inode block of a directory that does not have a name yet. The faults are those of the directory, `BadName`, and `Exists`.
+/// A name that a directory does not have yet. The faults are those of the directory, `BadName`, and `Exists`.
 pub fn find_free_name<S: Store>(
     store: &S,
     tree: Tree,
     directory: u32,
     name: &[u8],
-) -> Result<u32, Fault>
-    ensures free { result ≡ free_name (readable (S.state_of store.now) tree.fs.number) tree.top directory name.now }
+) -> Result<LookedUp, Fault>
+    ensures free { and_then result (λ found. Ok found.directory) ≡ free_name (readable (S.state_of store.now) tree.fs.number) tree.top directory name.now }
+    ensures place { IfOk result (λ found. found.place ≡ place_in (S.state_of store.now) tree.fs.number tree.top directory name.now) }
+    ensures within { IfOk result (λ found. IfOk found.place (IsWithinBlocks (readable (S.state_of store.now) tree.fs.number))) }
     ensures short { OnOk result (length name.now ≤ 255) }
 {
-    let block = find_directory_for(store, tree, directory, name)?.block;
-    match find_taken(store, tree, directory, name)? {
-        None => Ok(block),
+    let found = look_up(store, tree, directory, name)?;
+    match found.taken {
+        None => Ok(found),
         Some(_) => Err(Fault::Exists),
     }
-}
-
-/// Where a new name goes in a directory. The faults are those of the directory, `Full`, and `TooLarge`.
-fn find_place_in<S: Store>(
-    store: &S,
-    tree: Tree,
-    directory: u32,
-    name: &[u8],
-) -> Result<NamePlace, Fault>
-    ensures place { result ≡ place_in (S.state_of store.now) tree.fs.number tree.top directory name.now }
-    ensures within { IfOk result (λ place. IsWithinBlocks (readable (S.state_of store.now) tree.fs.number) place) }
-{
-    places_are_within();
-    let found = find_directory(store, tree.fs, tree.top, directory)?;
-    let Some(key) = read_key(store, tree.fs, tree.top) else {
-        return Err(Fault::NoEntry);
-    };
-    find_place(store, tree.fs, &key, found.block, name)
 }
 
 /// The bytes of a block that may be read; of another zeros.
@@ -154,19 +161,18 @@ fn addition_at<S: Store>(store: &S, tree: Tree, directory: u32, place: NamePlace
     }
 }
 
-/// Where the record of a new name goes in a directory; `block` is its inode block. The faults are those of the directory, `Full`, and
+/// Where the record of a new name goes in the directory with this inode block, by the place that was found for it. The faults are `Full`, and
 /// `TooLarge`.
 pub fn find_addition<S: Store>(
     store: &S,
     tree: Tree,
     directory: u32,
-    block: u32,
-    name: &[u8],
+    place: Result<NamePlace, Fault>,
 ) -> Result<Addition, Fault>
-    ensures { result ≡ addition_in (S.state_of store.now) tree directory block name.now }
+    requires { IfOk place (IsWithinBlocks (readable (S.state_of store.now) tree.fs.number)) }
+    ensures { result ≡ addition_for (readable (S.state_of store.now) tree.fs.number) tree.node_type directory place }
 {
-    let place = find_place_in(store, tree, directory, name)?;
-    Ok(addition_at(store, tree, block, place))
+    Ok(addition_at(store, tree, directory, place?))
 }
 
 /// In which blocks how many entries may come to be pending for an addition to the directory with this inode block.

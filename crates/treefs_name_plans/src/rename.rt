@@ -5,6 +5,7 @@ ghost use Rattle.std.specs.List.{list_all};
 ghost use Rattle.treefs_lookup.specs.Readable.{readable};
 ghost use Rattle.treefs_edits.specs.Rooms.{has_room_in};
 ghost use Rattle.treefs_name_plans.specs.Ends.{IsWithin};
+ghost use Rattle.treefs_name_plans.specs.NewNames.{IsWithinBlocks, place_in};
 ghost use Rattle.treefs_name_plans.specs.RenamePlans.{IsMovePlanned, IsRenamePlanned, apart_in_room, leads_to, linked_in_room, links_between};
 ghost use Rattle.treefs_name_plans.specs.RenamePlans.{old_offset, planned_move, rename_in, replaced_parts, rewritten_offset, stands_in, together_in_room};
 
@@ -16,14 +17,14 @@ use crate::moves::{find_moved, find_taken_end, is_directory};
 use crate::name_end::NameEnd;
 use crate::naming::Naming;
 use crate::namings::find_naming;
-use crate::new_names::find_taken;
+use crate::new_names::{LookedUp, look_up};
 use crate::rename_plan::{LinksBetween, Moving, RenamePlan};
 use crate::slots::narrow;
 use treefs_edits::fronts::front;
 use treefs_edits::{Memory, Times, Tree, has_room, have_room};
 use treefs_format::buckets::room_without;
 use treefs_format::inodes::CONTENT;
-use treefs_lookup::Slot;
+use treefs_lookup::{NamePlace, Slot};
 use treefs_model::Fault;
 use xn_state::Store;
 
@@ -200,17 +201,17 @@ fn rename_in<S: Store>(
     moved: &Moved,
     directory: u32,
     new_directory: u32,
-    new_name: &[u8],
+    place: Result<NamePlace, Fault>,
     replaced: Option<NameEnd>,
 ) -> Result<RenamePlan, Fault>
-    requires { IsWithin (readable (S.state_of store.now) tree.fs.number) moved.now.old.slot }
-    ensures { result ≡ rename_in (S.state_of store.now) tree memory.now moved.now directory new_directory new_name.now replaced }
+    requires old { IsWithin (readable (S.state_of store.now) tree.fs.number) moved.now.old.slot }
+    requires new { IfOk place (IsWithinBlocks (readable (S.state_of store.now) tree.fs.number)) }
+    ensures { result ≡ rename_in (S.state_of store.now) tree memory.now moved.now directory new_directory place replaced }
 {
     if directory != new_directory && memory.last_dir >= store.floor(tree.fs) {
         return Err(Fault::Full);
     }
-    let block = moved.directory;
-    let naming = find_naming(store, tree, new_directory, block, new_name, replaced)?;
+    let naming = find_naming(store, tree, moved.directory, place, replaced)?;
     linked_in_room(store, tree, memory, moved, new_directory, naming)
 }
 
@@ -224,7 +225,7 @@ fn leads_to(taken: Option<Slot>, number: u32) -> bool
     }
 }
 
-/// What a move takes to a name that leads elsewhere, by the record `taken`, or nowhere.
+/// What a move takes to a name that leads elsewhere, or nowhere.
 fn plan_move<S: Store>(
     store: &S,
     tree: Tree,
@@ -233,12 +234,15 @@ fn plan_move<S: Store>(
     directory: u32,
     new_directory: u32,
     new_name: &[u8],
-    taken: Option<Slot>,
+    found: &LookedUp,
 ) -> Result<Option<RenamePlan>, Fault>
-    requires { IsWithin (readable (S.state_of store.now) tree.fs.number) moved.now.old.slot }
-    ensures { IsMovePlanned (S.state_of store.now) tree memory.now moved.now directory new_directory new_name.now taken result }
+    requires old { IsWithin (readable (S.state_of store.now) tree.fs.number) moved.now.old.slot }
+    requires new { IfOk found.now.place (IsWithinBlocks (readable (S.state_of store.now) tree.fs.number)) }
+    requires place { found.now.place ≡ place_in (S.state_of store.now) tree.fs.number tree.top new_directory new_name.now }
+    ensures { IsMovePlanned (S.state_of store.now) tree memory.now moved.now directory new_directory new_name.now found.now.taken result }
 {
     let kind = moved.old.inode.kind;
+    let taken = found.taken;
     let replaced = find_taken_end(store, tree, memory, kind, new_directory, new_name, taken)?;
     match rename_in(
         store,
@@ -247,7 +251,7 @@ fn plan_move<S: Store>(
         moved,
         directory,
         new_directory,
-        new_name,
+        found.place,
         replaced,
     ) {
         Ok(plan) => Ok(Some(plan)),
@@ -273,8 +277,8 @@ pub fn plan_rename<S: Store>(
     ensures short { OnOk result (length new_name.now ≤ 255) }
 {
     let moved = find_moved(store, tree, directory, name, new_directory, new_name)?;
-    let taken = find_taken(store, tree, new_directory, new_name)?;
-    if leads_to(taken, moved.old.slot.number) {
+    let found = look_up(store, tree, new_directory, new_name)?;
+    if leads_to(found.taken, moved.old.slot.number) {
         return Ok(None);
     }
     plan_move(
@@ -285,6 +289,6 @@ pub fn plan_rename<S: Store>(
         directory,
         new_directory,
         new_name,
-        taken,
+        &found,
     )
 }

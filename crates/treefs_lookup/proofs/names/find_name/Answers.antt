@@ -1,5 +1,5 @@
-use Rattle.std.proofs.Common.{arith, ◌∙◌, sym, Some, None}
-use Rattle.std.specs.Prelude.{◌&&◌}
+use Rattle.std.proofs.Common.{arith, ◌∙◌, ap, sym}
+use Rattle.std.specs.Prelude.{◌&&◌, option_map}
 use Rattle.treefs_format.specs.Buckets.{has_name}
 use Rattle.treefs_format.specs.Left.{record_of}
 use Rattle.treefs_format.specs.Records.{is_live}
@@ -29,7 +29,8 @@ returns-in-Some g c =
     let level = c.loop-level.level in
     let found = record_of c.in-Some.record in
     sym (c.loop-level.invariant ∙ first_here (slot_in content c.args.inode c.args.name.now) hash level (slot_of bucket.block bucket.start found) c.loop-level-test.true
-    (slot_found content c.args.inode (candidate hash level) c.args.name.now bucket c.read_candidate-bucket.ensures (Some found) c.in-Some.ensures))
+    (slot_found content c.args.inode (candidate hash level) c.args.name.now bucket c.read_candidate-bucket.ensures
+    ∙ ap (option_map (slot_of bucket.block bucket.start)) (sym c.in-Some.ensures)))
 
 pub loop-level-preserved : goal.loop-level-preserved
 loop-level-preserved g c =
@@ -38,7 +39,8 @@ loop-level-preserved g c =
     let hash = c.name_hash-hash.result in
     let level = c.loop-level.level in
     c.loop-level.invariant ∙ first_later (slot_in content c.args.inode c.args.name.now) hash level c.loop-level-test.true
-    (slot_found content c.args.inode (candidate hash level) c.args.name.now bucket c.read_candidate-bucket.ensures None c.in_default.ensures)
+    (slot_found content c.args.inode (candidate hash level) c.args.name.now bucket c.read_candidate-bucket.ensures
+    ∙ ap (option_map (slot_of bucket.block bucket.start)) (sym c.in_default.ensures))
 
 pub returns : goal.returns
 returns g c =
