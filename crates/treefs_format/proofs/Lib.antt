@@ -11,3 +11,5 @@ pub mod Changes
 pub mod PathsOfLeaves
 pub mod Stated
 pub mod ForCallers
+pub mod FieldBytes
+pub mod JoinedBytes

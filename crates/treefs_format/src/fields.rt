@@ -1,12 +1,50 @@
 // The fields of an inode before its pointers: its 48 first bytes.
 
-ghost use Rattle.std.specs.Prelude.{◌≡◌, ◌++◌, ◌≢◌, [], drop, length, IfOk, IsTrue};
+ghost use Rattle.std.specs.Prelude.{◌≡◌, ◌++◌, ◌+◌, ◌≤◌, ◌≢◌, [], drop, length, IfOk, IsTrue};
+ghost use Rattle.std.specs.Int.{w16, w32, w64, to_le_bytes};
+ghost use Rattle.xn_model.specs.Lists.{put};
+ghost use Rattle.treefs_format.specs.Fields.{time_bytes};
 
 use crate::numbers::{half_at, long_at, signed_at, word_at};
-use byteorder::{ByteOrder, LittleEndian};
 use edit_list::Patch;
 use std::alloc::{AllocError, Global};
 use store_types::BLOCK_LEN;
+
+/// Writes a number into two bytes, from a place on.
+#[inline(always)]
+fn put_half(bytes: &mut [u8; 48], at: usize, number: u16)
+    requires { at + 2 ≤ 48 }
+    ensures { bytes.new ≡ put bytes.old at (to_le_bytes w16 number) }
+{
+    bytes[at..at + 2].copy_from_slice(&number.to_le_bytes());
+}
+
+/// Writes a number into four bytes, from a place on.
+#[inline(always)]
+fn put_word(bytes: &mut [u8; 48], at: usize, number: u32)
+    requires { at + 4 ≤ 48 }
+    ensures { bytes.new ≡ put bytes.old at (to_le_bytes w32 number) }
+{
+    bytes[at..at + 4].copy_from_slice(&number.to_le_bytes());
+}
+
+/// Writes a number into eight bytes, from a place on.
+#[inline(always)]
+fn put_long(bytes: &mut [u8; 48], at: usize, number: u64)
+    requires { at + 8 ≤ 48 }
+    ensures { bytes.new ≡ put bytes.old at (to_le_bytes w64 number) }
+{
+    bytes[at..at + 8].copy_from_slice(&number.to_le_bytes());
+}
+
+/// Writes a time into eight bytes, from a place on.
+#[inline(always)]
+fn put_time(bytes: &mut [u8; 48], at: usize, time: i64)
+    requires { at + 8 ≤ 48 }
+    ensures { bytes.new ≡ put bytes.old at (time_bytes time) }
+{
+    bytes[at..at + 8].copy_from_slice(&time.to_le_bytes());
+}
 
 /// The fields of an inode.
 #[derive(Clone, Copy, Debug)]
@@ -64,15 +102,15 @@ impl Fields {
         let mut bytes = [0; 48];
         bytes[0] = self.leaf_type;
         bytes[1] = self.node_type;
-        LittleEndian::write_u16(&mut bytes[2..], self.mode);
-        LittleEndian::write_u32(&mut bytes[4..], self.links);
-        LittleEndian::write_u32(&mut bytes[8..], self.uid);
-        LittleEndian::write_u32(&mut bytes[12..], self.gid);
-        LittleEndian::write_u64(&mut bytes[16..], self.size);
-        LittleEndian::write_i64(&mut bytes[24..], self.mtime);
-        LittleEndian::write_i64(&mut bytes[32..], self.ctime);
-        LittleEndian::write_u32(&mut bytes[40..], self.parent);
-        LittleEndian::write_u32(&mut bytes[44..], self.generation);
+        put_half(&mut bytes, 2, self.mode);
+        put_word(&mut bytes, 4, self.links);
+        put_word(&mut bytes, 8, self.uid);
+        put_word(&mut bytes, 12, self.gid);
+        put_long(&mut bytes, 16, self.size);
+        put_time(&mut bytes, 24, self.mtime);
+        put_time(&mut bytes, 32, self.ctime);
+        put_word(&mut bytes, 40, self.parent);
+        put_word(&mut bytes, 44, self.generation);
         bytes
     }
 }

@@ -115,6 +115,12 @@ module _ (content : ℕ → List ℕ) (inode number : ℕ) (r : Reach) (lt : num
       no_both : (b : Bool) → b ≡ true → b ≡ false → ⊥
       no_both b p q = cc
 
+pub none_yet : (content : ℕ → List ℕ) (inode from : ℕ) → NoneBegins content inode from from
+none_yet content inode from leaf levels ge lt = absurd (omega arith)
+
+pub none_at_all : (content : ℕ → List ℕ) (inode from number : ℕ) → leaf_count ≤ number → NoneBegins content inode from number → NoneBegins content inode from leaf_count
+none_at_all content inode from number past before leaf levels ge lt = before leaf levels ge (omega arith)
+
 -- one place on
 pub first_step : (levels l place : ℕ) → l < levels → is_first (levels - l) place ≡ ((place % 127 == 0) && is_first (levels - (l + 1)) (place / 127))
 first_step levels l place lt = let e : levels - l ≡ suc (levels - (l + 1)) = omega arith in ap (λ n. is_first n place) e

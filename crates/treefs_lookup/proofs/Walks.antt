@@ -1,12 +1,13 @@
 -- Paths of pointers, and how far they lead.
-use Rattle.std.proofs.Common.{◌≡◌, ℕ, zero, suc, ◌+◌, ◌<◌, ◌≤◌, ◌≢◌, Bool, true, false, List, [], ◌∷◌, ◌++◌, length, length-drop, get_or, take, drop, refl, sym, ◌∙◌, ap, arith, ◌==◌, eq-eqb, ne_eqb, take-append-drop, drop-drop, ◌-◌, if◌then◌else◌}
+use Rattle.std.proofs.Common.{◌≡◌, ℕ, zero, suc, ◌+◌, ◌<◌, ◌≤◌, ◌≢◌, Bool, true, false, List, [], ◌∷◌, ◌++◌, length, length-append, length-drop, get_or, take, drop, refl, sym, ◌∙◌, ap, arith, ◌==◌, eq-eqb, ne_eqb, take-append-drop, drop-drop, ◌-◌, if◌then◌else◌}
 use Rattle.std.proofs.Math.Seq.{drop-nil}
+use Rattle.std.proofs.lemmas.List.{drop_all, drop_more, take_all}
 use Rattle.std.specs.Int.{from_le_bytes, w32}
 use Rattle.xn_model.specs.Root.{word_at}
 use Rattle.treefs_format.specs.Paths.{steps}
 use Rattle.treefs_model.specs.Reading.{block_at, pointed}
 use Rattle.treefs_lookup.specs.declared.paths.Reach.{Reach}
-use Rattle.treefs_lookup.specs.Walks.{end_of, further, reach, reached, stepped}
+use Rattle.treefs_lookup.specs.Walks.{end_of, further, holder_steps, path_blocks, reach, reached, stepped}
 
 -- bytes that are not there have no pointer
 pub no_word : (at : ℕ) → word_at [] at ≡ 0
@@ -16,9 +17,48 @@ no_word at = ap (λ (l : List ℕ). from_le_bytes w32 (take 4 l)) (drop-nil at)
 pub none_pointed : (content : ℕ → List ℕ) (block at : ℕ) → content block ≡ [] → pointed content block at ≡ 0
 none_pointed content block at none = grind (arith, none, no_word at)
 
+-- those on a path from the top, as far as it was followed to a block
+pub record AreBlocks (content : ℕ → List ℕ) (top : ℕ) (offsets : List ℕ) (left block : ℕ) (blocks : List ℕ) : Type 0 where
+  pub within : left ≤ length offsets
+  pub few : length blocks + left ≡ length offsets
+  pub at : block ≡ block_at content top (drop left offsets)
+  pub so_far : blocks ≡ path_blocks content top (drop left offsets)
+
 module _ (content : ℕ → List ℕ) (top : ℕ) where
+  pub blocks_first : (offsets blocks : List ℕ) → blocks ≡ [] → AreBlocks content top offsets (length offsets) top blocks
+  blocks_first offsets blocks none =
+      let all = drop_all (length offsets) offsets (omega arith) in
+      record {
+        within = omega arith;
+        few = let long = ap length none in omega arith;
+        at = ap (block_at content top) (sym all);
+        so_far = none ∙ ap (path_blocks content top) (sym all);
+      }
+
+  pub blocks_more : (offsets blocks pushed : List ℕ) (left block next : ℕ) → 0 < left → AreBlocks content top offsets left block blocks →
+      next ≡ pointed content block (get_or offsets (left - 1) 0) → pushed ≡ blocks ++ next ∷ [] → AreBlocks content top offsets (left - 1) next pushed
+  blocks_more offsets blocks pushed left block next some before is more =
+      let o = get_or offsets (left - 1) 0 in
+      let e : left - 1 + 1 ≡ left = omega arith in
+      let within : left ≤ length offsets = before.within in
+      let few : length blocks + left ≡ length offsets = before.few in
+      let step : drop (left - 1) offsets ≡ o ∷ drop left offsets = drop_more offsets (left - 1) 0 (omega arith) ∙ ap (λ n. o ∷ drop n offsets) e in
+      let here : next ≡ pointed content (block_at content top (drop left offsets)) o = is ∙ ap (λ b. pointed content b o) before.at in
+      let long = ap length more in
+      let both = length-append blocks (next ∷ []) in
+      record {
+        within = omega arith;
+        few = omega arith;
+        at = here ∙ ap (block_at content top) (sym step);
+        so_far = more ∙ (ap (λ l. l ++ next ∷ []) before.so_far
+            ∙ (ap (λ n. path_blocks content top (drop left offsets) ++ n ∷ []) here ∙ ap (path_blocks content top) (sym step)));
+      }
+
+  pub blocks_all : (offsets blocks : List ℕ) (left block : ℕ) → left ≤ 0 → AreBlocks content top offsets left block blocks → blocks ≡ path_blocks content top offsets
+  blocks_all offsets blocks left block none all = let e : left ≡ 0 = omega arith in all.so_far ∙ ap (λ n. path_blocks content top (drop n offsets)) e
+
   -- a pointer that leads nowhere ends the path
-  pub reach_stops : (offsets : List ℕ) (k block : ℕ) → k < length offsets → reach content top (drop (suc k) offsets) ≡ reached block 0 →
+  reach_stops : (offsets : List ℕ) (k block : ℕ) → k < length offsets → reach content top (drop (suc k) offsets) ≡ reached block 0 →
       pointed content block (get_or offsets k 0) ≡ 0 → reach content top offsets ≡ reached block (k + 1)
   reach_stops [] k block lt so none = absurd (omega arith)
   reach_stops (o ∷ offsets) zero block lt so none = ap (further content o) so ∙ ap (stepped block) none
@@ -26,6 +66,13 @@ module _ (content : ℕ → List ℕ) (top : ℕ) where
       let e : suc k + 1 ≡ k + 1 + 1 = omega arith in
       ap (further content o) (reach_stops offsets k block (omega arith) so none)
       ∙ (ap (λ (t : Bool). if t then stepped block (pointed content block o) else reached block (k + 1 + 1)) (ne_eqb (k + 1) 0 (omega arith)) ∙ ap (reached block) (sym e))
+
+  pub stopped : (offsets : List ℕ) (left block next : ℕ) → 0 < left → left ≤ length offsets → reach content top (drop left offsets) ≡ reached block 0 →
+      next ≡ pointed content block (get_or offsets (left - 1) 0) → next ≡ 0 → reached block left ≡ reach content top offsets
+  stopped offsets left block next some few so is none =
+      let e : left ≡ suc (left - 1) = omega arith in
+      let n : left ≡ left - 1 + 1 = omega arith in
+      ap (reached block) n ∙ sym (reach_stops offsets (left - 1) block (omega arith) (ap (λ l. reach content top (drop l offsets)) (sym e) ∙ so) (sym is ∙ none))
 
   end_stepped : (block next : ℕ) (t : Bool) → (next == 0) ≡ t → next ≡ end_of (if t then reached block 1 else reached next 0)
   end_stepped block next true e = grind arith
@@ -40,6 +87,9 @@ module _ (content : ℕ → List ℕ) (top : ℕ) where
   pub ends : (offsets : List ℕ) → block_at content top offsets ≡ end_of (reach content top offsets)
   ends [] = refl
   ends (o ∷ offsets) = ap (λ b. pointed content b o) (ends offsets) ∙ end_further o (reach content top offsets) ((reach content top offsets).missing == 0) refl
+
+  pub end_is : (offsets : List ℕ) (r : Reach) (block : ℕ) → r ≡ reach content top offsets → block ≡ end_of r → block ≡ block_at content top offsets
+  end_is offsets r block is end = end ∙ (ap end_of is ∙ sym (ends offsets))
 
   -- what is missing begins with the first block that lacks its pointer
   none_at_end : (r : Reach) (k : ℕ) → r.missing ≡ suc k → end_of r ≡ 0
@@ -131,6 +181,13 @@ module _ (content : ℕ → List ℕ) (top : ℕ) where
   pub block_at-append : (xs ys : List ℕ) → block_at content top (xs ++ ys) ≡ block_at content (block_at content top ys) xs
   block_at-append [] ys = refl
   block_at-append (x ∷ xs) ys = ap (λ b. pointed content b x) (block_at-append xs ys)
+
+-- the block with the pointer to a leaf, by its offsets
+pub holder_is : (content : ℕ → List ℕ) (top leaf : ℕ) (items offsets : List ℕ) (r : Reach) → items ≡ steps leaf → offsets ≡ items →
+    r ≡ reach content top (take (length offsets - 1) (drop 1 offsets)) → r ≡ reach content top (holder_steps leaf)
+holder_is content top leaf items offsets r path same is =
+    let long = length-drop 1 offsets in
+    is ∙ (ap (reach content top) (take_all (length offsets - 1) (drop 1 offsets) (omega arith)) ∙ ap (λ l. reach content top (drop 1 l)) (same ∙ path))
 
 -- from no block nothing is reached
 pub block_at-zero : (content : ℕ → List ℕ) (xs : List ℕ) → block_at content 0 xs ≡ 0

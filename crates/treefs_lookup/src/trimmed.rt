@@ -4,6 +4,7 @@ ghost use Rattle.std.specs.Prelude.{◌≡◌, ◌<◌, ◌≤◌, length};
 ghost use Rattle.std.specs.Bool.{MatchBool};
 ghost use Rattle.treefs_format.specs.Leaves.{greatest_size};
 ghost use Rattle.treefs_format.specs.Paths.{leaf_count, place_in_tree};
+ghost use Rattle.treefs_lookup.specs.Bytes.{bytes_from, part_left};
 ghost use Rattle.treefs_lookup.specs.Readable.{readable};
 ghost use Rattle.treefs_lookup.specs.Trimmed.{IsCut, IsTrimmed, NoneBegins, SomeBegins, bytes_past, is_first, is_first_node, pointers_past};
 ghost use Rattle.xn_model.specs.Lists.{blank};
@@ -84,6 +85,18 @@ fn are_zeros(bytes: &[u8]) -> bool
     bytes == &ZEROS[..bytes.len()]
 }
 
+/// Whether bytes from a size on are zeros, as many as the part into which they are copied.
+#[inline(always)]
+fn is_blank_part<S: Store>(store: &S, fs: Fs, inode: u32, size: u64, part: &mut [u8]) -> bool
+    requires low { size < greatest_size }
+    requires within { length part.old ≤ part_left size }
+    ensures { result ≡ blank (bytes_from (readable (S.state_of store.now) fs.number) inode size (length part.old)) }
+{
+    let own = read_block(store, fs, inode);
+    copy_part(store, fs, inode, own, size, part);
+    are_zeros(part)
+}
+
 /// Whether the bytes from a size on that stand together with the first of them are zeros: those behind it in the inode, or in its leaf.
 pub fn is_blank_past<S: Store>(store: &S, fs: Fs, inode: u32, size: u64) -> bool
     requires { size < greatest_size }
@@ -91,9 +104,7 @@ pub fn is_blank_past<S: Store>(store: &S, fs: Fs, inode: u32, size: u64) -> bool
 {
     let mut part = [0u8; BLOCK_LEN];
     let length = part_left(size) as usize;
-    let own = read_block(store, fs, inode);
-    copy_part(store, fs, inode, own, size, &mut part[..length]);
-    are_zeros(&part[..length])
+    is_blank_part(store, fs, inode, size, &mut part[..length])
 }
 
 /// Whether nothing stands past the size of a file or a symbolic link. A directory is trimmed.

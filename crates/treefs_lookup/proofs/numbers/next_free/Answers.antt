@@ -3,10 +3,41 @@ use Rattle.std.specs.Bool.{MatchBool}
 use Rattle.xn_model.specs.PendingIn.{pending_in_of}
 use Rattle.treefs_format.specs.Paths.{last_beside, leaf_count}
 use Rattle.treefs_lookup.specs.Numbers.{NoneCanGive, SomeIsCrowded}
-use Rattle.treefs_lookup.proofs.FreeNumbers.{calm_none, crowded_none, crowded_some, free_can, pointed_none}
+use Rattle.treefs_lookup.proofs.FreeNumbers.{calm_none, crowded_none, crowded_some, free_can, gets_nearer, missing_next, none_as_crowded, none_at_all, none_crowded, none_given, pointed_none}
 use Rattle.treefs_lookup.proofs.Trees.{below_last, last_few}
 use Rattle.treefs_lookup.proofs.numbers.next_free.Goals.{then-pending_in-gt-MOST_PENDING, else-pending_in-gt-MOST_PENDING+in_default}
 use Rattle.treefs_lookup.proofs.numbers.next_free.Goals as goal
+
+pub loop-leaf-init : goal.loop-leaf-init
+loop-leaf-init g c = record {
+  past = omega arith;
+  none = none_given (g.S.Store.state_of c.args.store.now) c.args.fs.number c.args.top c.args.from;
+  crowds = none_crowded (g.S.Store.state_of c.args.store.now) c.args.fs.number c.args.top c.args.from;
+}
+
+pub overflow_add-leaf : goal.overflow_add-leaf
+overflow_add-leaf g c =
+    let last = last_few c.loop-leaf.leaf c.loop-leaf-test.true in
+    let is = c.last_beside-leaf.ensures in
+    omega arith
+
+pub loop-leaf-smaller : goal.loop-leaf-smaller
+loop-leaf-smaller g c = gets_nearer c.loop-leaf.leaf c.last_beside-leaf.result c.loop-leaf-test.true c.last_beside-leaf.ensures
+
+pub returns-then-holder-gt0 : goal.returns-then-holder-gt0
+returns-then-holder-gt0 g c =
+    missing_next (g.S.Store.state_of c.args.store.now) c.args.fs.number c.args.top c.args.from c.loop-leaf.leaf c.find_holder-holder.result
+    c.loop-leaf-test.true c.find_holder-holder.ensures c.if-holder-gt0.true c.loop-leaf.invariant.past c.loop-leaf.invariant.none
+
+pub returns-then-is_crowded : goal.returns-then-is_crowded
+returns-then-is_crowded g c =
+    none_as_crowded (g.S.Store.state_of c.args.store.now) c.args.fs.number c.args.top c.args.from c.loop-leaf.leaf c.loop-leaf.is_crowded
+    c.loop-leaf-test.false c.loop-leaf.invariant.none c.loop-leaf.invariant.crowds c.if-is_crowded.true
+
+pub returns-else-is_crowded : goal.returns-else-is_crowded
+returns-else-is_crowded g c =
+    none_at_all (g.S.Store.state_of c.args.store.now) c.args.fs.number c.args.top c.args.from c.loop-leaf.leaf c.loop-leaf.is_crowded
+    c.loop-leaf-test.false c.loop-leaf.invariant.none c.loop-leaf.invariant.crowds c.if-is_crowded.false
 
 pub returns-in-Some : goal.returns-in-Some
 returns-in-Some g c =

@@ -2,8 +2,8 @@ use Rattle.std.proofs.Common.{ap, arith, sym, ◌∙◌, subst}
 use Rattle.xn_model.specs.Lists.{blank}
 use Rattle.treefs_lookup.specs.Readable.{readable}
 use Rattle.treefs_lookup.specs.Trimmed.{NoneBegins, pointers_past}
-use Rattle.treefs_lookup.proofs.FirstBlocks.{leaf_begins, none_begins, node_begins}
-use Rattle.treefs_lookup.proofs.PassedLeaves.{goes_on}
+use Rattle.treefs_lookup.proofs.FirstBlocks.{leaf_begins, none_at_all, none_begins, none_yet, node_begins}
+use Rattle.treefs_lookup.proofs.PassedLeaves.{gets_closer, goes_on, levels_few}
 use Rattle.treefs_lookup.proofs.trimmed.stands_past.Goals.{then-reach-eq0-via-then-reach-eq0, then-reach-eq0-via-else-reach-eq0+then-is_first_node}
 use Rattle.treefs_lookup.proofs.ZeroPointers.{none_past}
 use Rattle.treefs_lookup.proofs.trimmed.stands_past.Goals as goal
@@ -42,3 +42,25 @@ loop-number-preserved g c =
       none = subst (NoneBegins content c.args.inode c.args.from) (sym is)
           (none_begins content c.args.inode number r lt c.find_leaf-reach.ensures c.if-reach-eq0.false (sym c.is_first_node.ensures ∙ c.if-is_first_node.false) c.args.from c.loop-number.invariant.none);
     }
+
+pub loop-number-init : goal.loop-number-init
+loop-number-init g c = record {
+  past = omega arith;
+  none = none_yet (readable (g.S.Store.state_of c.args.store.now) c.args.fs.number) c.args.inode c.args.from;
+}
+
+pub leaf_behind-number-requires : goal.leaf_behind-number-requires
+leaf_behind-number-requires g c = record {
+  there = c.loop-number-test.true;
+  few = levels_few (readable (g.S.Store.state_of c.args.store.now) c.args.fs.number) c.args.inode c.loop-number.number c.find_leaf-reach.result
+      c.loop-number-test.true c.find_leaf-reach.ensures c.if-reach-eq0.false;
+}
+
+pub loop-number-smaller : goal.loop-number-smaller
+loop-number-smaller g c =
+    gets_closer (readable (g.S.Store.state_of c.args.store.now) c.args.fs.number) c.args.inode c.loop-number.number c.find_leaf-reach.result
+    c.loop-number-test.true c.find_leaf-reach.ensures c.if-reach-eq0.false c.leaf_behind-number.result c.leaf_behind-number.ensures
+
+pub returns-2 : goal.returns-2
+returns-2 g c =
+    none_at_all (readable (g.S.Store.state_of c.args.store.now) c.args.fs.number) c.args.inode c.args.from c.loop-number.number c.loop-number-test.false c.loop-number.invariant.none
