@@ -1,4 +1,3 @@
-pub mod Remembering
 pub mod Dropping
 pub mod FreedInodes
 pub mod Refused

@@ -1,6 +1,6 @@
 // What a session remembers once a call is done.
 
-ghost use Rattle.std.specs.Prelude.{◌≡◌, ◌+◌, ◌<◌, ◌≤◌, vec_capacity, vec_len};
+ghost use Rattle.std.specs.Prelude.{◌≡◌, ◌+◌, ◌<◌, ◌≤◌, IfErr, IfOk, vec_capacity, vec_len};
 ghost use Rattle.xn_model.specs.PendingIn.{newest_entry_of};
 ghost use Rattle.treefs_edits.specs.Memories.{with_touched, without_touched};
 ghost use Rattle.treefs_lookup.specs.Readable.{readable};
@@ -11,10 +11,12 @@ ghost use Rattle.treefs.specs.Remembered.{ended_orphans, ended_touched, named_or
 ghost use Rattle.treefs.specs.Renaming.{moved_entry, moving_touched, renamed_touched};
 
 use edit_list::Fs;
+use store_types::Refusal;
 use treefs_edits::memory::{forget_touch, touch};
-use treefs_edits::{Memory, Times, Touched};
+use treefs_edits::{Memory, Times, Touched, lacks_memory};
 use treefs_format::paths::LEAVES;
 use treefs_lookup::leaf_block;
+use treefs_model::Fault;
 use treefs_name_plans::{Addition, Moving, NameEnd, Naming, RenamePlan};
 use xn_state::Store;
 
@@ -25,6 +27,39 @@ pub fn now_times(memory: &Memory) -> Times
     Times {
         mtime: memory.clock,
         ctime: memory.clock,
+    }
+}
+
+/// Makes room for so many more inodes that are touched. The fault is the kernel's, for want of memory.
+pub fn make_room(touched: &mut Vec<Touched>, more: usize) -> Result<(), Fault>
+    ensures touched { touched.new.items ≡ touched.old.items }
+    ensures ok { IfOk result (λ _. vec_len touched.new + more ≤ vec_capacity touched.new) }
+    ensures err { IfErr result (λ fault. fault ≡ Fault.Kernel Refusal.NoMemory) }
+{
+    match touched.reserve(more) {
+        Ok(()) => Ok(()),
+        Err(error) => Err(lacks_memory(error)),
+    }
+}
+
+/// Makes room for so many more inodes that are touched, and for one more orphan. The fault is the kernel's, for want of memory.
+pub fn make_rooms(
+    touched: &mut Vec<Touched>,
+    more: usize,
+    orphans: &mut Vec<u32>,
+) -> Result<(), Fault>
+    ensures touched { touched.new.items ≡ touched.old.items }
+    ensures orphans { orphans.new.items ≡ orphans.old.items }
+    ensures ok { IfOk result (λ _. vec_len touched.new + more ≤ vec_capacity touched.new) }
+    ensures orphan { IfOk result (λ _. vec_len orphans.new < vec_capacity orphans.new) }
+    ensures err { IfErr result (λ fault. fault ≡ Fault.Kernel Refusal.NoMemory) }
+{
+    if let Err(fault) = make_room(touched, more) {
+        return Err(fault);
+    }
+    match orphans.reserve(1) {
+        Ok(()) => Ok(()),
+        Err(error) => Err(lacks_memory(error)),
     }
 }
 

@@ -1,15 +1,16 @@
 // Inodes without links are trimmed to nothing, and then they are freed.
 
-ghost use Rattle.std.specs.Prelude.{◌≡◌, ◌≢◌, ◌+◌, ◌<◌, ◌≤◌, ◌∷◌, ◌++◌, ◌==◌, [], Ok, IfOk, length, map};
+ghost use Rattle.std.specs.Prelude.{◌≡◌, ◌≢◌, ◌+◌, ◌<◌, ◌≤◌, ◌∷◌, ◌++◌, ◌==◌, [], Ok, IfOk, Some, length, map};
 ghost use Rattle.xn_model.specs.BareDisks.{zeros};
 ghost use Rattle.xn_model.specs.Calls.{read_of};
 ghost use Rattle.xn_model.specs.Lists.{has_number, put};
 ghost use Rattle.treefs_byte_plans.specs.Kept.{HasFewLeaves};
+ghost use Rattle.treefs_edits.specs.Plans.{Does};
 ghost use Rattle.treefs_format.specs.Paths.{leaf_count};
 ghost use Rattle.treefs_lookup.specs.Readable.{readable};
 ghost use Rattle.treefs.specs.Reaping.{Empties, EmptiesOne, IsFreeing, IsReapPlanned, Reaps, ReapsOne, bytes_or_zeros, cleared, first_beside, reap_act};
 ghost use Rattle.treefs.specs.Reaping.{first_offset, freed_at, freed_memory, freed_patch, is_freed, kept_of_orphan, last_offset, least_hint};
-ghost use Rattle.treefs.specs.Reaping.{left_orphans, left_touched, orphan_block};
+ghost use Rattle.treefs.specs.Reaping.{left_orphans, left_touched, orphan_block, reap_plan, reaped_memory};
 
 use crate::reap_plan::{Freed, ReapPlan};
 use crate::trimming::trim_first;
@@ -304,6 +305,25 @@ fn forget_freed(memory: &mut Memory, freed: &[Freed])
     memory.hint = least_hint(memory.hint, freed);
 }
 
+/// Frees inodes, as it was planned.
+fn free_planned<S: Store>(
+    alloc: Global,
+    store: &mut S,
+    fs: Fs,
+    memory: &mut Memory,
+    plan: &ReapPlan,
+) -> Result<(), Fault>
+    ensures types { S.types_of store.new ≡ S.types_of store.old }
+    ensures does { Does (S.types_of store.old) fs.number (reap_plan plan.now) (S.state_of store.old) (S.state_of store.new) result }
+    ensures memory { memory.new ≡ reaped_memory memory.old (Ok (Some plan.now)) result }
+{
+    if let Err(fault) = carry_out(alloc, store, fs, plan) {
+        return Err(fault);
+    }
+    forget_freed(memory, plan.freed.as_slice());
+    Ok(())
+}
+
 /// Frees the inode of a number, and those of other numbers beside it.
 fn free_beside<S: Store>(
     alloc: Global,
@@ -316,16 +336,11 @@ fn free_beside<S: Store>(
     ensures types { S.types_of store.new ≡ S.types_of store.old }
     ensures does { ReapsOne (S.types_of store.old) tree numbers.now number (S.state_of store.old) (S.state_of store.new) memory.old memory.new result }
 {
-    let plan = match plan_reap(store, tree, memory, numbers, number) {
-        Ok(Some(plan)) => plan,
-        Ok(None) => return Ok(()),
-        Err(fault) => return Err(fault),
-    };
-    if let Err(fault) = carry_out(alloc, store, tree.fs, &plan) {
-        return Err(fault);
+    match plan_reap(store, tree, memory, numbers, number) {
+        Ok(Some(plan)) => free_planned(alloc, store, tree.fs, memory, &plan),
+        Ok(None) => Ok(()),
+        Err(fault) => Err(fault),
     }
-    forget_freed(memory, plan.freed.as_slice());
-    Ok(())
 }
 
 /// Frees those inodes of some numbers that have no links, all those by one edit whose pointers stand in one block. The fault is `Full`, before one of these

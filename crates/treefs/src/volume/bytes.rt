@@ -7,7 +7,7 @@ ghost use Rattle.treefs.specs.Trimming.{GiveUpDoes, TrimCallDoes, kept_in};
 ghost use Rattle.treefs.specs.Sizing.{SizeDoes, TruncateDoes};
 ghost use Rattle.treefs.specs.Writing.{StepDoes, Takes, WriteDoes};
 
-use crate::memory::{note_change, now_times};
+use crate::memory::{make_room, note_change, now_times};
 use crate::trimming::{trim_first, trim_to};
 use crate::volume::Volume;
 use std::alloc::Global;
@@ -16,7 +16,7 @@ use treefs_byte_plans::{
     trim_to_write,
 };
 use treefs_edits::memory::forget_touch;
-use treefs_edits::{Planned, carry_out, lacks_memory};
+use treefs_edits::{Planned, carry_out};
 use treefs_format::Kind;
 use treefs_lookup::{Found, find_inode};
 use treefs_model::Fault;
@@ -50,11 +50,12 @@ impl Volume {
     {
         let fs = self.tree.fs;
         let memory = &mut self.memory;
-        memory
-            .touched
-            .reserve(1)
-            .map_err(|error| lacks_memory(error))?;
-        carry_out(alloc, store, fs, plan)?;
+        if let Err(fault) = make_room(&mut memory.touched, 1) {
+            return Err(fault);
+        }
+        if let Err(fault) = carry_out(alloc, store, fs, plan) {
+            return Err(fault);
+        }
         let now = now_times(memory);
         note_change(&mut memory.touched, now, number, is_dated);
         Ok(taken)

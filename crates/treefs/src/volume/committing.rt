@@ -2,13 +2,12 @@
 
 ghost use Rattle.std.specs.Prelude.{◌≡◌, ◌≤◌, length, Ok, OnOk};
 ghost use Rattle.treefs_edits.specs.Plans.{Does};
-ghost use Rattle.treefs_name_plans.specs.CommitPlans.{commit_plan};
 ghost use Rattle.treefs.specs.Committing.{CommitDoes, IsBegunPlanned, committed_volume};
 
-use crate::memory::{note_replaced, now_times, touch_naming};
+use crate::memory::{make_rooms, note_replaced, now_times, touch_naming};
 use crate::volume::Volume;
 use std::alloc::Global;
-use treefs_edits::{Memory, Tree, carry_out, lacks_memory};
+use treefs_edits::{Memory, Planned, Tree, carry_out};
 use treefs_model::Fault;
 use treefs_name_plans::{CommitPlan, Committing, plan_commit};
 use xn_state::Store;
@@ -27,7 +26,10 @@ fn plan_begun<S: Store>(
     ensures planned { IsBegunPlanned (S.state_of store.now) tree memory.now inode directory name.now replace result }
     ensures short { OnOk result (length name.now ≤ 255) }
 {
-    let plan = plan_commit(store, tree, memory, directory, name, replace)?;
+    let plan = match plan_commit(store, tree, memory, directory, name, replace) {
+        Ok(plan) => plan,
+        Err(fault) => return Err(fault),
+    };
     match store.read(tree.fs, inode) {
         Ok(_) => Ok(plan),
         Err(reason) => Err(Fault::Kernel(reason)),
@@ -56,41 +58,38 @@ impl Volume {
     {
         let (tree, memory) = (self.tree, &self.memory);
         match plan_begun(store, tree, memory, inode, directory, name, replace) {
-            Ok(plan) => match self.name_inode(alloc, store, inode, directory, name, plan) {
-                Ok(()) => Ok(plan.number),
-                Err(fault) => Err(fault),
-            },
+            Ok(plan) => {
+                let naming = Committing { plan, inode, name };
+                match self.name_inode(alloc, store, directory, &naming, &plan) {
+                    Ok(()) => Ok(plan.number),
+                    Err(fault) => Err(fault),
+                }
+            }
             Err(fault) => Err(fault),
         }
     }
 
-    /// Gives an inode that was begun a name, as it was planned.
-    fn name_inode<S: Store>(
+    /// Gives a new inode its first name, as it was planned.
+    pub(super) fn name_inode<S: Store, P: Planned>(
         &mut self,
         alloc: Global,
         store: &mut S,
-        inode: u32,
         directory: u32,
-        name: &[u8],
-        plan: CommitPlan,
+        planned: &P,
+        plan: &CommitPlan,
     ) -> Result<(), Fault>
-        requires { length name.now ≤ 255 }
         ensures types { S.types_of store.new ≡ S.types_of store.old }
-        ensures does { Does (S.types_of store.old) self.old.tree.fs.number (commit_plan name.now inode plan) (S.state_of store.old) (S.state_of store.new)
-            result }
-        ensures volume { self.new ≡ committed_volume self.old directory (Ok plan) result }
+        ensures does { Does (S.types_of store.old) self.old.tree.fs.number (P.plan planned.now) (S.state_of store.old) (S.state_of store.new) result }
+        ensures volume { self.new ≡ committed_volume self.old directory (Ok plan.now) result }
     {
         let tree = self.tree;
         let memory = &mut self.memory;
-        memory
-            .touched
-            .reserve(1)
-            .map_err(|error| lacks_memory(error))?;
-        memory
-            .orphans
-            .reserve(1)
-            .map_err(|error| lacks_memory(error))?;
-        carry_out(alloc, store, tree.fs, &Committing { plan, inode, name })?;
+        if let Err(fault) = make_rooms(&mut memory.touched, 1, &mut memory.orphans) {
+            return Err(fault);
+        }
+        if let Err(fault) = carry_out(alloc, store, tree.fs, planned) {
+            return Err(fault);
+        }
         let now = now_times(memory);
         touch_naming(&mut memory.touched, now, directory, &plan.naming);
         note_replaced(&mut memory.orphans, &plan.naming);

@@ -7,11 +7,11 @@ ghost use Rattle.treefs.specs.Creating.{BeginDoes, CreateDoes, MkdirDoes, NewDoe
 
 use crate::attributes::Attributes;
 use crate::beginning::begin_one;
-use crate::memory::{naming_entry, note_replaced, now_times, touch_naming};
+use crate::memory::naming_entry;
 use crate::volume::Volume;
 use std::alloc::Global;
 use store_types::BLOCK_LEN;
-use treefs_edits::{Memory, Tree, carry_out, has_room, lacks_memory};
+use treefs_edits::{Memory, Tree, has_room};
 use treefs_format::inodes::new_inode;
 use treefs_format::types::LEAF_TYPE;
 use treefs_format::{Fields, Kind};
@@ -112,25 +112,16 @@ impl Volume {
         ensures types { S.types_of store.new ≡ S.types_of store.old }
         ensures does { NewDoes (S.types_of store.old) (S.state_of store.old) (S.state_of store.new) self.old self.new directory name.now inode.now result }
     {
-        let tree = self.tree;
-        let memory = &mut self.memory;
-        let plan = plan_new(store, tree, memory, directory, name, inode)?;
-        memory
-            .touched
-            .reserve(1)
-            .map_err(|error| lacks_memory(error))?;
-        memory
-            .orphans
-            .reserve(1)
-            .map_err(|error| lacks_memory(error))?;
-        if let Err(fault) = carry_out(alloc, store, tree.fs, &MakingNew { plan, name }) {
-            return Err(fault);
+        match plan_new(store, self.tree, &self.memory, directory, name, inode) {
+            Ok(plan) => {
+                let making = MakingNew { plan, name };
+                match self.name_inode(alloc, store, directory, &making, &plan.commit) {
+                    Ok(()) => Ok(plan),
+                    Err(fault) => Err(fault),
+                }
+            }
+            Err(fault) => Err(fault),
         }
-        let now = now_times(memory);
-        touch_naming(&mut memory.touched, now, directory, &plan.commit.naming);
-        note_replaced(&mut memory.orphans, &plan.commit.naming);
-        memory.hint = plan.commit.number.saturating_add(1);
-        Ok(plan)
     }
 
     /// Makes an empty file in a directory, and answers its number. The faults are, in this order, those of the directory (`NoEntry`, `NotDir`,

@@ -1,16 +1,19 @@
 // The calls on names.
 
-ghost use Rattle.std.specs.Prelude.{◌≡◌, Ok};
+ghost use Rattle.std.specs.Prelude.{◌≡◌, ◌≤◌, length, Ok};
 ghost use Rattle.treefs_edits.specs.Plans.{Does};
-ghost use Rattle.treefs.specs.Linking.{LinkDoes};
+ghost use Rattle.treefs_name_plans.specs.LinkPlans.{link_plan};
+ghost use Rattle.treefs.specs.Linking.{LinkDoes, linked_volume};
 ghost use Rattle.treefs.specs.Unlinking.{RmdirDoes, UnlinkDoes, ended_volume};
 
-use crate::memory::{note_orphan, now_times, record_entry, touch_end, touch_link};
+use crate::memory::{
+    make_room, make_rooms, note_orphan, now_times, record_entry, touch_end, touch_link,
+};
 use crate::volume::Volume;
 use std::alloc::Global;
-use treefs_edits::{Planned, carry_out, lacks_memory};
+use treefs_edits::{Planned, carry_out};
 use treefs_model::Fault;
-use treefs_name_plans::{Linking, NameEnd, plan_link, plan_rmdir, plan_unlink};
+use treefs_name_plans::{LinkPlan, Linking, NameEnd, plan_link, plan_rmdir, plan_unlink};
 use xn_state::Store;
 
 impl Volume {
@@ -67,15 +70,12 @@ impl Volume {
     {
         let tree = self.tree;
         let memory = &mut self.memory;
-        memory
-            .touched
-            .reserve(1)
-            .map_err(|error| lacks_memory(error))?;
-        memory
-            .orphans
-            .reserve(1)
-            .map_err(|error| lacks_memory(error))?;
-        carry_out(alloc, store, tree.fs, planned)?;
+        if let Err(fault) = make_rooms(&mut memory.touched, 1, &mut memory.orphans) {
+            return Err(fault);
+        }
+        if let Err(fault) = carry_out(alloc, store, tree.fs, planned) {
+            return Err(fault);
+        }
         let now = now_times(memory);
         touch_end(&mut memory.touched, now, directory, end);
         note_orphan(&mut memory.orphans, end);
@@ -97,14 +97,34 @@ impl Volume {
         ensures types { S.types_of store.new ≡ S.types_of store.old }
         ensures does { LinkDoes (S.types_of store.old) (S.state_of store.old) (S.state_of store.new) self.old self.new number directory name.now result }
     {
+        match plan_link(store, self.tree, &self.memory, number, directory, name) {
+            Ok(plan) => self.add_name(alloc, store, directory, name, plan),
+            Err(fault) => Err(fault),
+        }
+    }
+
+    /// Gives an inode one more name, in a directory, as it was planned.
+    fn add_name<S: Store>(
+        &mut self,
+        alloc: Global,
+        store: &mut S,
+        directory: u32,
+        name: &[u8],
+        plan: LinkPlan,
+    ) -> Result<(), Fault>
+        requires { length name.now ≤ 255 }
+        ensures types { S.types_of store.new ≡ S.types_of store.old }
+        ensures does { Does (S.types_of store.old) self.old.tree.fs.number (link_plan name.now plan) (S.state_of store.old) (S.state_of store.new) result }
+        ensures volume { self.new ≡ linked_volume (S.state_of store.new) self.old directory (Ok plan) result }
+    {
         let tree = self.tree;
         let memory = &mut self.memory;
-        let plan = plan_link(store, tree, memory, number, directory, name)?;
-        memory
-            .touched
-            .reserve(1)
-            .map_err(|error| lacks_memory(error))?;
-        carry_out(alloc, store, tree.fs, &Linking { plan, name })?;
+        if let Err(fault) = make_room(&mut memory.touched, 1) {
+            return Err(fault);
+        }
+        if let Err(fault) = carry_out(alloc, store, tree.fs, &Linking { plan, name }) {
+            return Err(fault);
+        }
         let now = now_times(memory);
         let last_link = record_entry(
             store,

@@ -5,10 +5,10 @@ ghost use Rattle.treefs_edits.specs.Plans.{Does};
 ghost use Rattle.treefs_name_plans.specs.RenamePlans.{rename_plan};
 ghost use Rattle.treefs.specs.Renaming.{RenameDoes, renamed_volume};
 
-use crate::memory::{moved_entry, note_replaced, now_times, touch_rename};
+use crate::memory::{make_rooms, moved_entry, note_replaced, now_times, touch_rename};
 use crate::volume::Volume;
 use std::alloc::Global;
-use treefs_edits::{carry_out, lacks_memory};
+use treefs_edits::carry_out;
 use treefs_model::Fault;
 use treefs_name_plans::{RenamePlan, Renaming, plan_rename};
 use xn_state::Store;
@@ -68,23 +68,16 @@ impl Volume {
     {
         let tree = self.tree;
         let memory = &mut self.memory;
-        memory
-            .touched
-            .reserve(3)
-            .map_err(|error| lacks_memory(error))?;
-        memory
-            .orphans
-            .reserve(1)
-            .map_err(|error| lacks_memory(error))?;
-        carry_out(
-            alloc,
-            store,
-            tree.fs,
-            &Renaming {
-                plan,
-                name: new_name,
-            },
-        )?;
+        if let Err(fault) = make_rooms(&mut memory.touched, 3, &mut memory.orphans) {
+            return Err(fault);
+        }
+        let renaming = Renaming {
+            plan,
+            name: new_name,
+        };
+        if let Err(fault) = carry_out(alloc, store, tree.fs, &renaming) {
+            return Err(fault);
+        }
         let now = now_times(memory);
         let last_dir = moved_entry(store, &plan, memory.last_dir);
         touch_rename(&mut memory.touched, now, directory, new_directory, &plan);

@@ -1,13 +1,16 @@
 // The calls that set attributes and times of inodes.
 
 ghost use Rattle.std.specs.Prelude.{◌≡◌};
-ghost use Rattle.treefs.specs.Setting.{AttributesDoes, MtimeDoes, mtime_planned};
+ghost use Rattle.treefs_byte_plans.specs.Attributes.{attributes_plan};
+ghost use Rattle.treefs_edits.specs.Plans.{Does};
+ghost use Rattle.treefs.specs.Setting.{AttributesDoes, MtimeDoes, attributes_volume, mtime_planned};
 
+use crate::memory::make_room;
 use crate::volume::Volume;
 use std::alloc::Global;
-use treefs_byte_plans::{Attributes, plan_attributes};
+use treefs_byte_plans::{Attributes, AttributesPlan, plan_attributes};
 use treefs_edits::memory::{forget_touch, touch};
-use treefs_edits::{Memory, Times, Tree, carry_out, has_room, lacks_memory};
+use treefs_edits::{Memory, Times, Tree, carry_out, has_room};
 use treefs_lookup::find_inode;
 use treefs_model::Fault;
 use xn_state::Store;
@@ -36,10 +39,29 @@ impl Volume {
         ensures types { S.types_of store.new ≡ S.types_of store.old }
         ensures does { AttributesDoes (S.types_of store.old) (S.state_of store.old) (S.state_of store.new) self.old self.new number attributes result }
     {
-        let tree = self.tree;
+        match plan_attributes(store, self.tree, &self.memory, number, attributes) {
+            Ok(plan) => self.set_planned(alloc, store, number, &plan),
+            Err(fault) => Err(fault),
+        }
+    }
+
+    /// Sets attributes of an inode, as it was planned.
+    fn set_planned<S: Store>(
+        &mut self,
+        alloc: Global,
+        store: &mut S,
+        number: u32,
+        plan: &AttributesPlan,
+    ) -> Result<(), Fault>
+        ensures types { S.types_of store.new ≡ S.types_of store.old }
+        ensures does { Does (S.types_of store.old) self.old.tree.fs.number (attributes_plan plan.now) (S.state_of store.old) (S.state_of store.new) result }
+        ensures volume { self.new ≡ attributes_volume self.old number result }
+    {
+        let fs = self.tree.fs;
         let memory = &mut self.memory;
-        let plan = plan_attributes(store, tree, memory, number, attributes)?;
-        carry_out(alloc, store, tree.fs, &plan)?;
+        if let Err(fault) = carry_out(alloc, store, fs, plan) {
+            return Err(fault);
+        }
         forget_touch(&mut memory.touched, number);
         Ok(())
     }
@@ -51,11 +73,12 @@ impl Volume {
     {
         let tree = self.tree;
         let memory = &mut self.memory;
-        ask_for_touch(store, tree, memory, number)?;
-        memory
-            .touched
-            .reserve(1)
-            .map_err(|error| lacks_memory(error))?;
+        if let Err(fault) = ask_for_touch(store, tree, memory, number) {
+            return Err(fault);
+        }
+        if let Err(fault) = make_room(&mut memory.touched, 1) {
+            return Err(fault);
+        }
         let times = Times {
             mtime,
             ctime: memory.clock,
