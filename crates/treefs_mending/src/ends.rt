@@ -1,7 +1,9 @@
 // Names that are one too many end.
 
 ghost use Rattle.std.specs.Prelude.{◌≡◌, IfOk, length};
+ghost use Rattle.treefs_lookup.specs.Readable.{readable};
 ghost use Rattle.treefs_mending.specs.Ends.{MendsNames, end_acts};
+ghost use Rattle.treefs_mending.specs.Surveys.{survey_of};
 
 use crate::in_room::make_all_in_room;
 use crate::names::Name;
@@ -22,6 +24,14 @@ pub fn plan_ends(alloc: Global, names: &[Name]) -> Result<Vec<Act>, AllocError>
     Ok(acts)
 }
 
+/// The acts by which all names end that are one too many. `Err` comes only for want of memory.
+fn plan_all_ends<S: Store>(alloc: Global, store: &S, tree: Tree) -> Result<Vec<Act>, AllocError>
+    ensures { IfOk result (λ acts. acts.items ≡ end_acts (survey_of (readable (S.state_of store.now) tree.fs.number) tree.top).surplus) }
+{
+    let survey = survey_names(alloc, store, tree)?;
+    plan_ends(alloc, &survey.surplus)
+}
+
 /// Ends each name that is one too many, as the volume stands. `Full` comes where one has no room, `Kernel` for want of memory, or where the store
 /// refuses an edit; then those before it are ended. It is called again once all is flushed.
 pub fn mend_names<S: Store>(
@@ -33,7 +43,8 @@ pub fn mend_names<S: Store>(
     ensures types { S.types_of store.new ≡ S.types_of store.old }
     ensures mends { MendsNames (S.types_of store.old) tree (length memory.now.touched) (S.state_of store.old) (S.state_of store.new) result }
 {
-    let survey = survey_names(alloc, store, tree).map_err(|error| lacks_memory(error))?;
-    let acts = plan_ends(alloc, &survey.surplus).map_err(|error| lacks_memory(error))?;
-    make_all_in_room(store, tree, memory, acts)
+    match plan_all_ends(alloc, store, tree) {
+        Ok(acts) => make_all_in_room(store, tree, memory, acts),
+        Err(error) => Err(lacks_memory(error)),
+    }
 }

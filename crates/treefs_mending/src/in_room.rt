@@ -39,7 +39,9 @@ pub fn make_all_in_room<S: Store>(
 {
     let mut rest = VecDeque::from(acts);
     while let Some(act) = rest.pop_front() {
-        make_in_room(store, tree, memory, act)?;
+        if let Err(fault) = make_in_room(store, tree, memory, act) {
+            return Err(fault);
+        }
     }
     Ok(())
 }

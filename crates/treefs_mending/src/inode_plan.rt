@@ -133,6 +133,8 @@ pub fn mend_inode<S: Store>(
     ensures does { DoesActs (S.types_of store.old) tree.fs.number (length memory.now.touched) (Ok (inode_acts plan)) (S.state_of store.old)
         (S.state_of store.new) result }
 {
-    let acts = inode_acts(alloc, plan).map_err(|error| lacks_memory(error))?;
-    make_all_in_room(store, tree, memory, acts)
+    match inode_acts(alloc, plan) {
+        Ok(acts) => make_all_in_room(store, tree, memory, acts),
+        Err(error) => Err(lacks_memory(error)),
+    }
 }

@@ -1,6 +1,6 @@
 // The names of a directory.
 
-ghost use Rattle.std.specs.Prelude.{◌≡◌, ◌++◌, IfOk};
+ghost use Rattle.std.specs.Prelude.{◌≡◌, ◌++◌, ◌∷◌, [], IfOk};
 ghost use Rattle.treefs_lookup.specs.Readable.{readable};
 ghost use Rattle.treefs_mending.specs.Names.{live_names, names_in};
 
@@ -21,17 +21,26 @@ pub struct Name {
     pub number: u32,
 }
 
+/// Adds a name. `Err` comes only for want of memory.
+pub(crate) fn push_name(names: &mut Vec<Name>, name: Name) -> Result<(), AllocError>
+    ensures { IfOk result (λ _. names.new.items ≡ names.old.items ++ name ∷ []) }
+{
+    names.push(name)?;
+    Ok(())
+}
+
 /// Adds the names of a bucket.
 fn push_bucket(names: &mut Vec<Name>, bucket: &Bucket) -> Result<(), AllocError>
     ensures { IfOk result (λ _. names.new.items ≡ names.old.items ++ names_in bucket.now.block bucket.now.start bucket.now.bytes.now) }
 {
     for record in Records::new(bucket.bytes) {
         if record.number != 0 {
-            names.push(Name {
+            let name = Name {
                 block: bucket.block,
                 offset: (bucket.start + record.offset) as u16,
                 number: record.number,
-            })?;
+            };
+            push_name(names, name)?;
         }
     }
     Ok(())

@@ -1,9 +1,10 @@
 // Buckets with dead records are rewritten without them.
 
-ghost use Rattle.std.specs.Prelude.{◌≡◌, ◌≤◌, ◌++◌, IfErr, IfOk, Ok, Err, MatchResult, ◌⊎◌, length};
-ghost use Rattle.store_types.specs.declared.refusal.Refusal.TheVariants as refusal;
+ghost use Rattle.std.specs.Prelude.{◌≡◌, ◌≤◌, ◌++◌, IfOk, is_none, length};
+ghost use Rattle.std.specs.List.{list_all};
+ghost use Rattle.xn_model.specs.PendingIn.{newest_entry_of};
 ghost use Rattle.treefs_lookup.specs.Readable.{readable};
-ghost use Rattle.treefs_mending.specs.InRoom.{DoesActs};
+ghost use Rattle.treefs_mending.specs.InRoom.{DoesActs, DoesPlannedActs};
 ghost use Rattle.treefs_mending.specs.Rewritings.{all_rewritings, calm, has_dead, rewriting_at, rewritings, rewritings_planned};
 
 use crate::in_room::make_all_in_room;
@@ -54,6 +55,22 @@ fn push_rewritings<S: Store>(
     Ok(())
 }
 
+/// Adds the acts by which the buckets of directories are rewritten, those with dead records.
+fn push_all_rewritings<S: Store>(
+    alloc: Global,
+    acts: &mut Vec<Act>,
+    store: &S,
+    fs: Fs,
+    directories: &[Directory],
+) -> Result<(), AllocError>
+    ensures { IfOk result (λ _. acts.new.items ≡ acts.old.items ++ all_rewritings (readable (S.state_of store.now) fs.number) directories.now) }
+{
+    for directory in directories {
+        push_rewritings(alloc, acts, store, fs, directory.block)?;
+    }
+    Ok(())
+}
+
 /// The acts by which the buckets of directories are rewritten, those with dead records. `Err` comes only for want of memory.
 pub fn plan_rewritings<S: Store>(
     alloc: Global,
@@ -64,22 +81,38 @@ pub fn plan_rewritings<S: Store>(
     ensures { IfOk result (λ acts. acts.items ≡ all_rewritings (readable (S.state_of store.now) fs.number) directories.now) }
 {
     let mut acts = Vec::new(alloc);
-    for directory in directories {
-        push_rewritings(alloc, &mut acts, store, fs, directory.block)?;
-    }
+    push_all_rewritings(alloc, &mut acts, store, fs, directories)?;
     Ok(acts)
 }
 
-/// Acts, where nothing is pending in the block of any of them; else the fault is `Full`.
-fn calm<S: Store>(store: &S, acts: Vec<Act>) -> Result<Vec<Act>, Fault>
-    ensures { MatchResult result (λ answer. calm (S.state_of store.now) acts.items ≡ Ok answer.items) (λ fault. calm (S.state_of store.now) acts.items ≡ Err fault) }
+/// Whether nothing is pending in the block of any of these acts.
+fn are_calm<S: Store>(store: &S, acts: &[Act]) -> bool
+    ensures { result ≡ list_all (λ act. is_none (newest_entry_of (S.state_of store.now) act.block)) acts.now }
 {
-    for act in &acts {
+    for act in acts {
         if store.newest_entry(act.block).is_some() {
-            return Err(Fault::Full);
+            return false;
         }
     }
-    Ok(acts)
+    true
+}
+
+/// Makes acts, where nothing is pending in the block of any of them; else the fault is `Full`, and nothing is done.
+fn make_if_calm<S: Store>(
+    store: &mut S,
+    tree: Tree,
+    memory: &Memory,
+    acts: Vec<Act>,
+) -> Result<(), Fault>
+    ensures types { S.types_of store.new ≡ S.types_of store.old }
+    ensures does { DoesPlannedActs (S.types_of store.old) tree.fs.number (length memory.now.touched) (calm (S.state_of store.old) acts.items)
+        (S.state_of store.old) (S.state_of store.new) result }
+{
+    if are_calm(store, &acts) {
+        make_all_in_room(store, tree, memory, acts)
+    } else {
+        Err(Fault::Full)
+    }
 }
 
 /// Rewrites each bucket of directories that has dead records without them. `Full` comes, before the first one, where something is pending in the
@@ -96,9 +129,8 @@ pub fn rewrite_buckets<S: Store>(
     ensures does { DoesActs (S.types_of store.old) tree.fs.number (length memory.now.touched)
         (rewritings_planned (S.state_of store.old) tree.fs.number directories.now) (S.state_of store.old) (S.state_of store.new) result }
 {
-    let acts = plan_rewritings(alloc, store, tree.fs, directories).map_err(|error| lacks_memory(
-        error,
-    ))?;
-    let acts = calm(store, acts)?;
-    make_all_in_room(store, tree, memory, acts)
+    match plan_rewritings(alloc, store, tree.fs, directories) {
+        Ok(acts) => make_if_calm(store, tree, memory, acts),
+        Err(error) => Err(lacks_memory(error)),
+    }
 }

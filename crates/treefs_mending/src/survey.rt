@@ -1,11 +1,12 @@
 // A walk over all names of a volume.
 
-ghost use Rattle.std.specs.Prelude.{◌≡◌, ◌++◌, IfOk};
+ghost use Rattle.std.specs.Prelude.{◌≡◌, ◌++◌, ◌∷◌, [], IfOk};
 ghost use Rattle.treefs_lookup.specs.Readable.{readable};
 ghost use Rattle.treefs_mending.specs.Surveys.{first_survey, inode_count, met, names_below, survey_of, visited, walked, with_unreached};
+ghost use Rattle.treefs_mending.specs.Tallies.{with_name};
 
 use crate::lead::{Lead, lead_at, lead_of};
-use crate::names::{Name, push_names};
+use crate::names::{Name, push_name, push_names};
 use crate::tally::{Tally, count_name};
 use std::alloc::{AllocError, Global};
 use std::marker::Model;
@@ -73,6 +74,17 @@ fn first_survey<S: Store>(alloc: Global, store: &S, tree: Tree) -> Result<Survey
 }
 
 impl Survey {
+    /// A directory is found, by a name in the directory of a number.
+    fn find(&mut self, number: u32, block: u32, directory: u32) -> Result<(), AllocError>
+        ensures { IfOk result (λ _. self.new ≡ record self.old {
+          directories = self.old.directories ++ record { number = number; block = block } ∷ [];
+          tallies = with_name self.old.tallies number directory;
+        }) }
+    {
+        self.directories.push(Directory { number, block })?;
+        count_name(&mut self.tallies, number, directory)
+    }
+
     /// A name is met in the directory of a number.
     fn meet<S: Store>(
         &mut self,
@@ -84,14 +96,8 @@ impl Survey {
         ensures { IfOk result (λ _. self.new ≡ met (readable (S.state_of store.now) tree.fs.number) tree.top directory self.old name) }
     {
         match lead_at(store, tree, &self.tallies, name.number) {
-            Lead::Surplus => Ok(self.surplus.push(name)?),
-            Lead::NewDirectory(block) => {
-                self.directories.push(Directory {
-                    number: name.number,
-                    block,
-                })?;
-                count_name(&mut self.tallies, name.number, directory)
-            }
+            Lead::Surplus => push_name(&mut self.surplus, name),
+            Lead::NewDirectory(block) => self.find(name.number, block, directory),
             Lead::File => count_name(&mut self.tallies, name.number, directory),
         }
     }
