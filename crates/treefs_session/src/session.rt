@@ -20,7 +20,6 @@ mod pieces;
 mod puts;
 
 /// A store with the open volume of a file system.
-#[derive(Debug)]
 pub struct Session<S: FlushStore> {
     store: S,
     volume: Volume,
@@ -36,7 +35,6 @@ impl<S: FlushStore + Drop> Drop for Session<S> {
 }
 
 /// A session that could not be closed, and why.
-#[derive(Debug)]
 pub struct Unclosed<S: FlushStore> {
     pub session: Session<S>,
     pub fault: Fault,
