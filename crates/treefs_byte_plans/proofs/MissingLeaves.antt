@@ -1,7 +1,7 @@
 -- Leaves that are missing, and new ones, one after another.
-use Rattle.std.proofs.Common.{◌≡◌, ℕ, zero, suc, ◌+◌, ◌-◌, ◌<◌, ◌≤◌, ◌≢◌, Bool, true, false, List, [], ◌∷◌, ◌++◌, sym, ◌∙◌, ap, append_assoc, arith, eq-eqb, length, ne_eqb, take, drop, ◌==◌, if◌then◌else◌}
+use Rattle.std.proofs.Common.{◌≡◌, ℕ, zero, suc, ◌+◌, ◌-◌, ◌<◌, ◌≤◌, ◌≢◌, Bool, true, false, List, [], ◌∷◌, ◌++◌, sym, ◌∙◌, ap, append_assoc, arith, eq-eqb, get_or, length, length-append, ne_eqb, set, take, drop, ◌==◌, if◌then◌else◌}
 use Rattle.std.specs.Prelude.{None}
-use Rattle.std.proofs.lemmas.List.{drop-drop}
+use Rattle.std.proofs.lemmas.List.{drop-drop, get_or_at, set_at}
 use borrow.Rule.Slice.PartMut.{put_mid}
 use Rattle.xn_model.specs.BareDisks.{zeros}
 use Rattle.xn_model.specs.Lists.{put}
@@ -59,11 +59,11 @@ attach_more (suc n) holder offset rest lt =
 
 -- one more is pushed in a loop
 
-pub leaf_pushed : (all starts longer : List Start) (left place ty : ℕ) (leaf front rest next : List ℕ) → 0 < left → ty ≡ 2 → leaf ≡ leaf_of place front →
-    front ≡ take (512 - place) rest → next ≡ drop (512 - place) rest → longer ≡ starts ++ record { ty = ty; bytes = leaf } ∷ [] →
+pub leaf_pushed : (all starts longer : List Start) (left place : ℕ) (front rest next : List ℕ) → 0 < left →
+    front ≡ take (512 - place) rest → next ≡ drop (512 - place) rest → longer ≡ starts ++ record { ty = 2; bytes = leaf_of place front } ∷ [] →
     starts ++ leaf_starts left place rest ≡ all → longer ++ leaf_starts (left - 1) 0 next ≡ all
-leaf_pushed all starts longer left place ty leaf front rest next lt is_ty is_leaf is_front is_next pushed e =
-    let start : Start = record { ty = ty; bytes = leaf } in
+leaf_pushed all starts longer left place front rest next lt is_front is_next pushed e =
+    let start : Start = record { ty = 2; bytes = leaf_of place front } in
     let more = leaf_more left place rest lt in
     let first : leaf_starts left place rest ≡ start ∷ leaf_starts (left - 1) 0 next = cc in
     ap (λ l. l ++ leaf_starts (left - 1) 0 next) pushed
@@ -80,10 +80,24 @@ attach_pushed all acts longer act left holder offset ty some rest next lt is_ty 
     ap (λ l. l ++ attach_acts (left - 1) holder (offset + 64) next) pushed
     ∙ (append_assoc acts (act ∷ []) (attach_acts (left - 1) holder (offset + 64) next) ∙ (ap (λ l. acts ++ l) (sym first) ∙ e))
 
+-- the last start, which was just pushed, gets its bytes
+pub last_started : (starts longer : List Start) (made start : Start) (place len : ℕ) (leaf bytes : List ℕ) → longer ≡ starts ++ made ∷ [] → len ≡ length longer →
+    start ≡ get_or longer (len - 1) start → made.ty ≡ 2 → leaf ≡ leaf_of place bytes →
+    set longer (len - 1) (record { ty = start.ty; bytes = leaf }) ≡ starts ++ record { ty = 2; bytes = leaf_of place bytes } ∷ []
+last_started starts longer made start place len leaf bytes pushed is_len is_start is_ty is_leaf =
+    let longer_by = ap length pushed ∙ length-append starts (made ∷ []) in
+    let at : length starts ≡ len - 1 = omega (arith, is_len, longer_by) in
+    let is_made : start ≡ made = is_start ∙ (ap (λ (l : List Start). get_or l (len - 1) start) pushed ∙ get_or_at starts made [] start (len - 1) at) in
+    let same : record { ty = start.ty; bytes = leaf } ≡ record { ty = 2; bytes = leaf_of place bytes } = cc in
+    ap (λ (l : List Start). set l (len - 1) (record { ty = start.ty; bytes = leaf })) pushed
+    ∙ (set_at starts made [] (record { ty = start.ty; bytes = leaf }) (len - 1) at ∙ ap (λ (s : Start). starts ++ s ∷ []) same)
+
 -- bytes that are copied into a block of zeros
-pub copied : (place count : ℕ) (bytes part : List ℕ) → count ≡ length bytes → part ≡ bytes → put_mid place count (zeros 512) part ≡ put (zeros 512) place bytes
-copied place count bytes part is_count is_part =
-    ap (λ (p : List ℕ). take place (zeros 512) ++ (p ++ drop count (drop place (zeros 512)))) is_part
+pub copied : (place count : ℕ) (block bytes part : List ℕ) → block ≡ zeros 512 → count ≡ length bytes → part ≡ bytes →
+    put_mid place count block part ≡ put (zeros 512) place bytes
+copied place count block bytes part is_blank is_count is_part =
+    ap (λ (b : List ℕ). put_mid place count b part) is_blank
+    ∙ (ap (λ (p : List ℕ). take place (zeros 512) ++ (p ++ drop count (drop place (zeros 512)))) is_part
     ∙ (ap (λ (k : ℕ). take place (zeros 512) ++ (bytes ++ drop k (drop place (zeros 512)))) is_count
     ∙ (ap (λ (l : List ℕ). take place (zeros 512) ++ (bytes ++ l)) (drop-drop (length bytes) place (zeros 512))
-    ∙ sym (append_assoc (take place (zeros 512)) bytes (drop (place + length bytes) (zeros 512)))))
+    ∙ sym (append_assoc (take place (zeros 512)) bytes (drop (place + length bytes) (zeros 512))))))

@@ -4,7 +4,7 @@ ghost use Rattle.std.specs.Prelude.{◌≡◌, ◌∷◌, ◌++◌, [], IfOk, ma
 ghost use Rattle.treefs_byte_plans.specs.Attributes.{attributes_act, attributes_planned, mode_parts, owner_parts, set_times};
 ghost use Rattle.treefs_format.specs.Fields.{changes_patch};
 
-use crate::patches::{patch_act, push_changes, push_times};
+use crate::patches::{patches_alone, push_changes, push_times};
 use edit_list::Patch;
 use std::alloc::{AllocError, Global};
 use treefs_edits::{Act, ActsAlone, Memory, Times, Tree, has_room};
@@ -49,11 +49,19 @@ impl ActsAlone for AttributesPlan {
 
     fn acts_alone(&self, alloc: Global) -> Result<Vec<Act>, AllocError> {
         let mut patches = Vec::new(alloc);
-        push_mode(alloc, &mut patches, self.mode)?;
-        push_owner(alloc, &mut patches, self.owner)?;
-        push_times(alloc, &mut patches, self.times)?;
-        let act = patch_act(alloc, self.block, patches, None);
-        Ok(Vec::from_array(alloc, [act])?)
+        self.push_patches(alloc, &mut patches)?;
+        patches_alone(alloc, self.block, patches)
+    }
+}
+
+impl AttributesPlan {
+    /// Adds the patches.
+    fn push_patches(&self, alloc: Global, patches: &mut Vec<Patch>) -> Result<(), AllocError>
+        ensures { IfOk result (λ _. patches.new.items ≡ patches.old.items ++ (attributes_act self.now).edit.patches) }
+    {
+        push_mode(alloc, patches, self.mode)?;
+        push_owner(alloc, patches, self.owner)?;
+        push_times(alloc, patches, self.times)
     }
 }
 

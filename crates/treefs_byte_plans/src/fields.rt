@@ -41,7 +41,7 @@ pub(crate) fn size_patch(alloc: Global, size: u64, times: Times) -> Result<Patch
 }
 
 /// The size of an inode rises, and its times change, behind all of another block.
-pub(crate) fn raise_size(
+fn raise_size(
     alloc: Global,
     inode: u32,
     size: u64,
@@ -56,6 +56,23 @@ pub(crate) fn raise_size(
         Change::Ctime(times.ctime),
     ];
     kinds::change_fields(alloc, inode, &changes, Some(block))
+}
+
+/// Adds the act by which the size rises, where it does, behind all of another block.
+pub(crate) fn push_raise(
+    alloc: Global,
+    acts: &mut Vec<Act>,
+    inode: u32,
+    size: Option<u64>,
+    times: Times,
+    block: u32,
+) -> Result<(), AllocError>
+    ensures { IfOk result (λ _. acts.new.items ≡ acts.old.items ++ size_acts inode block size times) }
+{
+    if let Some(size) = size {
+        acts.push(raise_size(alloc, inode, size, times, block)?)?;
+    }
+    Ok(())
 }
 
 /// The caller's time, twice.

@@ -1,6 +1,6 @@
 // How pointers in an inode are dropped.
 
-ghost use Rattle.std.specs.Prelude.{◌≡◌, ◌+◌, ◌<◌, ◌≤◌, ◌∷◌, ◌++◌, [], length, map, IfOk, MatchOption};
+ghost use Rattle.std.specs.Prelude.{◌≡◌, ◌+◌, ◌<◌, ◌≤◌, ◌∷◌, ◌++◌, [], length, map, IfOk, MatchOption, None};
 ghost use Rattle.treefs_byte_plans.specs.Roots.{HasNoRoots, IsRootsPlanned, blocks_of, last_offset, leaf_patches, pointers_act};
 ghost use Rattle.treefs_byte_plans.specs.Roots.{leaf_pointers, tree_patch, tree_pointer, tree_pointers};
 ghost use Rattle.treefs_lookup.specs.Readable.{readable};
@@ -21,26 +21,53 @@ impl ActsAlone for RootsPlan {
     ghost acts_of = { λ p. pointers_act p.inode p.trees.items p.leaves.items ∷ [] };
 
     fn acts_alone(&self, alloc: Global) -> Result<Vec<Act>, AllocError> {
-        let trees = self.trees.as_slice();
-        let leaves = self.leaves.as_slice();
         let mut patches = Vec::new(alloc);
-        push_trees(alloc, &mut patches, trees)?;
-        push_leaves(alloc, &mut patches, leaves)?;
+        self.push_patches(alloc, &mut patches)?;
         let mut drops = Vec::new(alloc);
-        push_blocks(&mut drops, trees)?;
-        push_blocks(&mut drops, leaves)?;
-        let act = Act {
-            block: self.inode,
-            edit: Edit {
-                patches,
-                adds: Vec::new(alloc),
-                drops,
-                after: None,
-            },
-            behind: None,
-        };
-        Ok(Vec::from_array(alloc, [act])?)
+        self.push_drops(&mut drops)?;
+        drops_alone(alloc, self.inode, patches, drops)
     }
+}
+
+impl RootsPlan {
+    /// Adds zeros over each pointer to a tree, and over the leaves' from the first to the last.
+    fn push_patches(&self, alloc: Global, patches: &mut Vec<Patch>) -> Result<(), AllocError>
+        ensures { IfOk result (λ _. patches.new.items ≡ patches.old.items ++ (map tree_patch self.now.trees.items ++ leaf_patches self.now.leaves.items)) }
+    {
+        push_trees(alloc, patches, self.trees.as_slice())?;
+        push_leaves(alloc, patches, self.leaves.as_slice())
+    }
+
+    /// Adds the blocks to which the pointers lead.
+    fn push_drops(&self, blocks: &mut Vec<u32>) -> Result<(), AllocError>
+        ensures { IfOk result (λ _. blocks.new.items ≡ blocks.old.items ++ (blocks_of self.now.trees.items ++ blocks_of self.now.leaves.items)) }
+    {
+        push_blocks(blocks, self.trees.as_slice())?;
+        push_blocks(blocks, self.leaves.as_slice())
+    }
+}
+
+/// The one edit of a block that has these patches, and drops these blocks.
+fn drops_alone(
+    alloc: Global,
+    block: u32,
+    patches: Vec<Patch>,
+    drops: Vec<u32>,
+) -> Result<Vec<Act>, AllocError>
+    ensures { IfOk result (λ acts. acts.items
+        ≡ record { block = block; edit = record { patches = patches.items; adds = []; drops = drops.items; after = None }; behind = None } ∷ []) }
+{
+    let act = Act {
+        block,
+        edit: Edit {
+            patches,
+            adds: Vec::new(alloc),
+            drops,
+            after: None,
+        },
+        behind: None,
+    };
+    Ok(Vec::from_array(alloc, [act])?)
 }
 
 /// Adds zeros over each of some pointers.

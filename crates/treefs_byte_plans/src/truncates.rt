@@ -9,7 +9,7 @@ ghost use Rattle.treefs_lookup.specs.Readable.{readable};
 use crate::fields::{push_size, times_now};
 use crate::keeping::{find_untrimmed, kept_up_to};
 use crate::kept::Kept;
-use crate::patches::patch_act;
+use crate::patches::patches_alone;
 use crate::size::SizePlan;
 use edit_list::Patch;
 use std::alloc::{AllocError, Global};
@@ -27,8 +27,7 @@ impl ActsAlone for SizePlan {
         let mut patches = Vec::new(alloc);
         push_size(alloc, &mut patches, self.size, self.times)?;
         push_zeros(alloc, &mut patches, self.blank_from)?;
-        let act = patch_act(alloc, self.block, patches, None);
-        Ok(Vec::from_array(alloc, [act])?)
+        patches_alone(alloc, self.block, patches)
     }
 }
 

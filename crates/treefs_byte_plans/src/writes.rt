@@ -1,18 +1,19 @@
 // How a piece of a write is planned.
 
-ghost use Rattle.std.specs.Prelude.{◌≡◌, ◌/◌, ◌<◌, ◌∷◌, ◌++◌, [], IfOk, Some};
+ghost use Rattle.std.specs.Prelude.{◌≡◌, ◌/◌, ◌<◌, ◌∷◌, ◌++◌, [], length, IfOk, Some};
 ghost use Rattle.treefs_byte_plans.specs.Fields.{bytes_patch};
 ghost use Rattle.treefs_byte_plans.specs.Kept.{HasFewLeaves};
 ghost use Rattle.treefs_byte_plans.specs.Writes.{IsTrimToWrite, IsWithin, content_acts, content_in_room, first_piece, leaf_acts, leaf_in_room};
-ghost use Rattle.treefs_byte_plans.specs.Writes.{leaves_step, piece_step, planned_step, raises, write_planned, written_file};
+ghost use Rattle.treefs_byte_plans.specs.Writes.{leaves_step, piece_step, planned_step, raises, run_step, write_planned, written_file};
+ghost use Rattle.treefs_byte_plans.specs.Runs.{run_planned};
 ghost use Rattle.treefs_format.specs.Leaves.{greatest_size};
 ghost use Rattle.treefs_lookup.specs.Readable.{readable};
 ghost use Rattle.treefs_model.specs.Reading.{leaf_block};
 
-use crate::fields::{push_size, raise_size, risen, times_now};
+use crate::fields::{push_raise, push_size, risen, times_now};
 use crate::keeping::find_untrimmed;
 use crate::kept::Kept;
-use crate::patches::patch_act;
+use crate::patches::patches_alone;
 use crate::piece::{ContentPlan, LeafPlan, WriteStep};
 use crate::runs::plan_run;
 use edit_list::Patch;
@@ -31,8 +32,7 @@ impl ActsAlone for ContentPlan<'_> {
         let mut patches = Vec::new(alloc);
         push_bytes(alloc, &mut patches, self.offset, self.bytes)?;
         push_size(alloc, &mut patches, self.size, self.times)?;
-        let act = patch_act(alloc, self.block, patches, None);
-        Ok(Vec::from_array(alloc, [act])?)
+        patches_alone(alloc, self.block, patches)
     }
 }
 
@@ -40,12 +40,19 @@ impl ActsAlone for LeafPlan<'_> {
     ghost acts_of = { leaf_acts };
 
     fn acts_alone(&self, alloc: Global) -> Result<Vec<Act>, AllocError> {
-        let bytes = kinds::write_bytes(alloc, self.leaf, self.offset, self.bytes, None)?;
-        let mut acts = Vec::from_array(alloc, [bytes])?;
-        if let Some(size) = self.size {
-            acts.push(raise_size(alloc, self.inode, size, self.times, self.leaf)?)?;
-        }
+        let mut acts = Vec::new(alloc);
+        self.push_acts(alloc, &mut acts)?;
         Ok(acts)
+    }
+}
+
+impl LeafPlan<'_> {
+    /// Adds the acts.
+    fn push_acts(&self, alloc: Global, acts: &mut Vec<Act>) -> Result<(), AllocError>
+        ensures { IfOk result (λ _. acts.new.items ≡ acts.old.items ++ leaf_acts self.now) }
+    {
+        acts.push(kinds::write_bytes(alloc, self.leaf, self.offset, self.bytes, None)?)?;
+        push_raise(alloc, acts, self.inode, self.size, self.times, self.leaf)
     }
 }
 
@@ -118,6 +125,25 @@ fn plan_leaf<'a, S: Store>(
     }))
 }
 
+/// What bytes take of which the first one's leaf is missing: a run of leaves.
+fn plan_missing<'a, S: Store>(
+    store: &S,
+    tree: Tree,
+    memory: &Memory,
+    file: &Found,
+    at: u64,
+    bytes: &'a [u8],
+) -> Result<WriteStep<'a>, Fault>
+    requires low { at < greatest_size }
+    ensures planned { planned_step result ≡ run_step (run_planned (S.state_of store.now) tree memory.now file.now at (length bytes.now)) }
+    ensures within { IfOk result IsWithin }
+{
+    match plan_run(store, tree, memory, file, at, bytes.len()) {
+        Ok(plan) => Ok(WriteStep::Run(plan)),
+        Err(fault) => Err(fault),
+    }
+}
+
 /// What bytes past those in the inode take: a piece in a leaf, or a run of leaves where the first one is missing.
 fn plan_leaves<'a, S: Store>(
     store: &S,
@@ -134,10 +160,7 @@ fn plan_leaves<'a, S: Store>(
 {
     let leaf = leaf_block(store, tree.fs, file.block, (at / LEAF_LEN) as u32);
     if leaf == 0 {
-        return match plan_run(store, tree, memory, file, at, bytes.len()) {
-            Ok(plan) => Ok(WriteStep::Run(plan)),
-            Err(fault) => Err(fault),
-        };
+        return plan_missing(store, tree, memory, file, at, bytes);
     }
     plan_leaf(store, tree, memory, file, leaf, at, first_piece(at, bytes))
 }

@@ -1,10 +1,10 @@
 // How a run of missing leaves is carried out.
 
-ghost use Rattle.std.specs.Prelude.{◌≡◌, ◌+◌, ◌-◌, ◌*◌, ◌^◌, ◌<◌, ◌≤◌, ◌++◌, length, IfOk};
-ghost use Rattle.treefs_byte_plans.specs.Fields.{size_acts};
+ghost use Rattle.std.specs.Prelude.{◌≡◌, ◌+◌, ◌-◌, ◌*◌, ◌^◌, ◌<◌, ◌≤◌, ◌∷◌, ◌++◌, [], length, IfOk};
+ghost use Rattle.xn_model.specs.BareDisks.{zeros};
 ghost use Rattle.treefs_byte_plans.specs.Runs.{IsRun, attach_acts, holder_acts, leaf_of, leaf_starts, own_act, run_acts_of, run_path, run_plan, run_waits};
 
-use crate::fields::{raise_size, size_patch};
+use crate::fields::{push_raise, size_patch};
 use crate::run_plan::RunPlan;
 use arrayvec::ArrayVec;
 use std::alloc::{AllocError, Global};
@@ -33,14 +33,28 @@ pub struct WritingRun<'a> {
     ghost is: { IsRun plan },
 }
 
-/// A leaf with some bytes from a place on, and zeros.
-fn leaf_of(place: usize, bytes: &[u8]) -> [u8; BLOCK_LEN]
-    requires { place + length bytes.now ≤ 512 }
-    ensures { result ≡ leaf_of place bytes.now }
+/// Copies bytes into a leaf from a place on, which was all zeros.
+fn copy_to(leaf: &mut [u8; BLOCK_LEN], place: usize, bytes: &[u8])
+    requires fits { place + length bytes.now ≤ 512 }
+    requires blank { leaf.old ≡ zeros 512 }
+    ensures { leaf.new ≡ leaf_of place bytes.now }
 {
-    let mut leaf = [0; BLOCK_LEN];
     leaf[place..place + bytes.len()].copy_from_slice(bytes);
-    leaf
+}
+
+/// Adds a leaf with some bytes from a place on, and zeros. The bytes are copied to where the leaf stands then, so that no leaf is moved.
+fn push_leaf_start(starts: &mut Vec<Start>, place: usize, bytes: &[u8]) -> Result<(), AllocError>
+    requires { place + length bytes.now ≤ 512 }
+    ensures { IfOk result (λ _. starts.new.items ≡ starts.old.items ++ record { ty = 2; bytes = leaf_of place bytes.now } ∷ []) }
+{
+    starts.push(Start {
+        ty: u32::from(LEAF_TYPE),
+        bytes: [0; BLOCK_LEN],
+    })?;
+    if let Some(start) = starts.last_mut() {
+        copy_to(&mut start.bytes, place, bytes);
+    }
+    Ok(())
 }
 
 /// Adds so many leaves of some bytes, of which the first stands at a place of the first leaf.
@@ -57,10 +71,7 @@ fn push_leaf_starts(
     let mut place = place;
     let mut rest = bytes;
     while left > 0 {
-        starts.push(Start {
-            ty: u32::from(LEAF_TYPE),
-            bytes: leaf_of(place, front(rest, BLOCK_LEN - place)),
-        })?;
+        push_leaf_start(starts, place, front(rest, BLOCK_LEN - place))?;
         rest = behind(rest, BLOCK_LEN - place);
         place = 0;
         left -= 1;
@@ -112,21 +123,6 @@ impl RunPlan {
         }
     }
 
-    /// Adds the act by which the size rises, where it does.
-    fn push_size_act(
-        &self,
-        alloc: Global,
-        acts: &mut Vec<Act>,
-        holder: u32,
-    ) -> Result<(), AllocError>
-        ensures { IfOk result (λ _. acts.new.items ≡ acts.old.items ++ size_acts self.now.inode holder self.now.size self.now.times) }
-    {
-        if let Some(size) = self.size {
-            acts.push(raise_size(alloc, self.inode, size, self.times, holder)?)?;
-        }
-        Ok(())
-    }
-
     /// Adds the wait of the inode for the block with the pointers, where there is one.
     fn push_wait(&self, alloc: Global, acts: &mut Vec<Act>, holder: u32) -> Result<(), AllocError>
         ensures { IfOk result (λ _. acts.new.items ≡ acts.old.items ++ run_waits self.now holder) }
@@ -156,22 +152,27 @@ impl RunPlan {
         }
         let edits = self.count.div_ceil(POINTERS);
         push_attach_acts(alloc, acts, edits, holder, offset, leaves)?;
-        self.push_size_act(alloc, acts, holder)?;
+        push_raise(alloc, acts, self.inode, self.size, self.times, holder)?;
         self.push_wait(alloc, acts, holder)
     }
 
-    /// The acts, where these nodes and leaves were begun.
-    fn acts_of(&self, alloc: Global, nodes: &[u32], leaves: &[u32]) -> Result<Vec<Act>, AllocError>
+    /// Adds the acts, where these nodes and leaves were begun.
+    fn push_acts(
+        &self,
+        alloc: Global,
+        acts: &mut Vec<Act>,
+        nodes: &[u32],
+        leaves: &[u32],
+    ) -> Result<(), AllocError>
         requires { IsRun self.now }
-        ensures { IfOk result (λ acts. acts.items ≡ run_acts_of self.now nodes.now leaves.now) }
+        ensures { IfOk result (λ _. acts.new.items ≡ acts.old.items ++ run_acts_of self.now nodes.now leaves.now) }
     {
         let offsets = missing_path(self.leaf, self.missing);
         let count = self.missing.saturating_sub(1);
         let holder = last_or_owner(self.owner, nodes);
-        let mut acts = Vec::new(alloc);
         push_node_acts(
             alloc,
-            &mut acts,
+            acts,
             self.node_type,
             LEAF_TYPE,
             self.owner,
@@ -179,8 +180,7 @@ impl RunPlan {
             nodes,
         )?;
         let offset = pointer_offset(self.leaf);
-        self.push_holder_acts(alloc, &mut acts, holder, offset, leaves)?;
-        Ok(acts)
+        self.push_holder_acts(alloc, acts, holder, offset, leaves)
     }
 }
 
@@ -191,7 +191,7 @@ impl<'a> Planned for WritingRun<'a> {
         let plan = &self.plan;
         let offsets = missing_path(plan.leaf, plan.missing);
         let nodes = front(offsets.as_slice(), plan.missing.saturating_sub(1));
-        let mut starts = Vec::new(alloc);
+        let mut starts = Vec::with_capacity(alloc, nodes.len() + plan.count as usize)?;
         push_node_starts(&mut starts, plan.node_type, LEAF_TYPE, nodes)?;
         let place = (plan.at % LEAF_LEN) as usize;
         push_leaf_starts(&mut starts, plan.count, place, self.bytes)?;
@@ -202,6 +202,8 @@ impl<'a> Planned for WritingRun<'a> {
         let plan = &self.plan;
         let offsets = missing_path(plan.leaf, plan.missing);
         let nodes = front(offsets.as_slice(), plan.missing.saturating_sub(1)).len();
-        plan.acts_of(alloc, front(begun, nodes), behind(begun, nodes))
+        let mut acts = Vec::new(alloc);
+        plan.push_acts(alloc, &mut acts, front(begun, nodes), behind(begun, nodes))?;
+        Ok(acts)
     }
 }

@@ -1,4 +1,5 @@
 pub mod Below
+pub mod Cases
 pub mod Names
 pub mod PendingBuckets
 pub mod Placed

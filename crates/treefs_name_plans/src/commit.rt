@@ -1,8 +1,13 @@
 // How a new inode gets its first name, or the place of another one.
 
-ghost use Rattle.std.specs.Prelude.{◌≡◌, ◌≤◌, length, OnOk};
+ghost use Rattle.std.specs.Prelude.{◌≡◌, ◌≤◌, ℕ, Result, length, IfOk, OnOk};
 ghost use Rattle.treefs_format.specs.Paths.{leaf_count};
-ghost use Rattle.treefs_name_plans.specs.CommitPlans.{IsCommitPlanned, IsReplaced, IsTargetOf, commit_in_room};
+ghost use Rattle.treefs_lookup.specs.Readable.{readable};
+ghost use Rattle.treefs_model.specs.Files.{and_then};
+ghost use Rattle.treefs_model.specs.declared.fault.Fault.{Fault};
+ghost use Rattle.treefs_name_plans.specs.CommitPlans.{IsCommitPlanned, IsNumberFound, IsReplaced, IsTargetOf, commit_in_room};
+ghost use Rattle.treefs_name_plans.specs.Namings.{naming_for};
+ghost use Rattle.treefs_name_plans.specs.NewNames.{IsWithinBlocks};
 
 use crate::commit_plan::CommitPlan;
 use crate::endings::find_ended_file;
@@ -11,7 +16,7 @@ use crate::naming::Naming;
 use crate::namings::{find_naming, find_replaceable};
 use crate::new_names::look_up;
 use treefs_edits::{Memory, Tree, has_room, have_room};
-use treefs_lookup::{Slot, find_leaf, find_number};
+use treefs_lookup::{NamePlace, Slot, find_leaf, find_number};
 use treefs_model::Fault;
 use xn_state::Store;
 
@@ -86,6 +91,26 @@ fn find_target<S: Store>(
     }
 }
 
+/// What it takes that a new inode gets a name of the directory with this inode block. The faults are of the number `Full` and `NoInode`, `Full` or
+/// `TooLarge` where there is no place for the name, and `Full` where there is no room.
+fn plan_numbered<S: Store>(
+    store: &S,
+    tree: Tree,
+    memory: &Memory,
+    directory: u32,
+    place: Result<NamePlace, Fault>,
+    replaced: Option<NameEnd>,
+) -> Result<CommitPlan, Fault>
+    requires { IfOk place (IsWithinBlocks (readable (S.state_of store.now) tree.fs.number)) }
+    ensures { (number : Result ℕ Fault) × IsNumberFound (S.state_of store.now) tree memory.now number × (result ≡ and_then number (λ n.
+        and_then (naming_for (readable (S.state_of store.now) tree.fs.number) tree.node_type directory place replaced)
+        (commit_in_room (S.state_of store.now) tree memory.now 30 n directory))) }
+{
+    let number = find_number(store, tree.fs, tree.top, memory.hint)?;
+    let naming = find_naming(store, tree, directory, place, replaced)?;
+    commit_in_room(store, tree, memory, 30, number, directory, naming)
+}
+
 /// What it takes that a new inode gets a name of a directory. The faults are those of the directory, `BadName`, `Exists` where a name that is there
 /// is not to be replaced, `IsDir` where that is a directory's, `Full` where another name of the file may have to be written first, of the number
 /// `Full` and `NoInode`, `Full` or `TooLarge` where there is no place for the name, and `Full` where there is no room.
@@ -102,7 +127,5 @@ pub fn plan_commit<S: Store>(
 {
     let found = look_up(store, tree, directory, name)?;
     let replaced = find_target(store, tree, memory, directory, name, found.taken, replace)?;
-    let number = find_number(store, tree.fs, tree.top, memory.hint)?;
-    let naming = find_naming(store, tree, found.directory, found.place, replaced)?;
-    commit_in_room(store, tree, memory, 30, number, found.directory, naming)
+    plan_numbered(store, tree, memory, found.directory, found.place, replaced)
 }

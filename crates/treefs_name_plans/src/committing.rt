@@ -1,7 +1,9 @@
 // How a new inode gets its first name, or the place of another one.
 
-ghost use Rattle.std.specs.Prelude.{◌≡◌, ◌≤◌, ◌++◌, length, IfOk};
-ghost use Rattle.treefs_name_plans.specs.CommitPlans.{commit_acts, commit_acts_of, commit_plan, commit_starts, table_path};
+ghost use Rattle.std.specs.Prelude.{◌≡◌, ◌≤◌, ◌-◌, ◌∷◌, ◌++◌, [], length, slice_index, IfOk, Some};
+ghost use Rattle.treefs_edits.specs.Missing.{node_acts};
+ghost use Rattle.treefs_model.specs.Acts.{attach_act};
+ghost use Rattle.treefs_name_plans.specs.CommitPlans.{commit_acts, commit_acts_of, commit_plan, commit_starts, table_nodes, table_path};
 
 use crate::commit_plan::CommitPlan;
 use arrayvec::ArrayVec;
@@ -41,44 +43,70 @@ impl CommitPlan {
         self.naming.push_starts(starts)
     }
 
-    /// The acts, where these blocks were begun: the nodes of the table, and those for the record.
-    fn acts_of(
+    /// Adds the acts by which the inode is attached to a block, which is the last of the table's path to it.
+    fn push_table_acts(
         &self,
         alloc: Global,
-        name: &[u8],
+        acts: &mut Vec<Act>,
         inode: u32,
         nodes: &[u32],
-        others: &[u32],
-    ) -> Result<Vec<Act>, AllocError>
-        requires { length name.now ≤ 255 }
-        ensures { IfOk result (λ acts. acts.items ≡ commit_acts_of self.now name.now inode nodes.now others.now) }
+        holder: u32,
+    ) -> Result<(), AllocError>
+        ensures { IfOk result (λ _. acts.new.items
+            ≡ acts.old.items ++ (node_acts self.now.node_type self.now.inode_type self.now.owner (table_nodes self.now) nodes.now
+            ++ attach_act holder (slice_index (table_path self.now) (self.now.missing - 1)) self.now.inode_type (inode ∷ []) (Some inode) ∷ [])) }
     {
         let offsets = self.table_path();
         let last = self.missing.saturating_sub(1);
-        let holder = last_or_owner(self.owner, nodes);
-        let mut acts = Vec::new(alloc);
-        self.naming.push_rewriting(alloc, &mut acts)?;
         push_node_acts(
             alloc,
-            &mut acts,
+            acts,
             self.node_type,
             self.inode_type,
             self.owner,
             front(offsets.as_slice(), last),
             nodes,
         )?;
-        acts.push(kinds::attach(
-            alloc,
-            holder,
-            offset_at(offsets.as_slice(), last),
-            u32::from(self.inode_type),
-            &[inode],
-            Some(inode),
-        )?)?;
+        let offset = offset_at(offsets.as_slice(), last);
+        self.push_attach(alloc, acts, inode, holder, offset)
+    }
+
+    /// Adds the act by which the inode is attached to a block, by the pointer at an offset.
+    fn push_attach(
+        &self,
+        alloc: Global,
+        acts: &mut Vec<Act>,
+        inode: u32,
+        holder: u32,
+        offset: u16,
+    ) -> Result<(), AllocError>
+        ensures { IfOk result (λ _. acts.new.items
+            ≡ acts.old.items ++ attach_act holder offset self.now.inode_type (inode ∷ []) (Some inode) ∷ []) }
+    {
+        let ty = u32::from(self.inode_type);
+        acts.push(kinds::attach(alloc, holder, offset, ty, &[inode], Some(inode))?)?;
+        Ok(())
+    }
+
+    /// Adds the acts, where these blocks were begun: the nodes of the table, and those for the record.
+    fn push_acts(
+        &self,
+        alloc: Global,
+        acts: &mut Vec<Act>,
+        name: &[u8],
+        inode: u32,
+        nodes: &[u32],
+        others: &[u32],
+    ) -> Result<(), AllocError>
+        requires { length name.now ≤ 255 }
+        ensures { IfOk result (λ _. acts.new.items ≡ acts.old.items ++ commit_acts_of self.now name.now inode nodes.now others.now) }
+    {
+        let holder = last_or_owner(self.owner, nodes);
+        self.naming.push_rewriting(alloc, acts)?;
+        self.push_table_acts(alloc, acts, inode, nodes, holder)?;
         self.naming
-            .push_acts(alloc, &mut acts, others, self.number, name, holder)?;
-        self.naming.push_ends(alloc, &mut acts)?;
-        Ok(acts)
+            .push_acts(alloc, acts, others, self.number, name, holder)?;
+        self.naming.push_ends(alloc, acts)
     }
 
     /// The acts, where these blocks were begun.
@@ -94,13 +122,16 @@ impl CommitPlan {
     {
         let offsets = self.table_path();
         let nodes = front(offsets.as_slice(), self.missing.saturating_sub(1)).len();
-        self.acts_of(
+        let mut acts = Vec::new(alloc);
+        self.push_acts(
             alloc,
+            &mut acts,
             name,
             inode,
             front(begun, nodes),
             behind(begun, nodes),
-        )
+        )?;
+        Ok(acts)
     }
 }
 

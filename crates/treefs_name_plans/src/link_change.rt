@@ -1,6 +1,6 @@
 // An inode gets a link more, or one fewer.
 
-ghost use Rattle.std.specs.Prelude.{◌≡◌, IfOk};
+ghost use Rattle.std.specs.Prelude.{◌≡◌, ◌∷◌, ◌++◌, [], IfOk};
 ghost use Rattle.treefs_name_plans.specs.Links.{link_act};
 
 use std::alloc::{AllocError, Global};
@@ -20,17 +20,23 @@ pub struct LinkChange {
 }
 
 impl LinkChange {
-    /// The act, behind all of a block.
-    pub(crate) fn act(&self, alloc: Global, behind: u32) -> Result<Act, AllocError>
-        ensures { IfOk result (λ act. act ≡ link_act self.now behind) }
+    /// Adds the act, behind all of a block.
+    pub(crate) fn push_act(
+        &self,
+        alloc: Global,
+        acts: &mut Vec<Act>,
+        behind: u32,
+    ) -> Result<(), AllocError>
+        ensures { IfOk result (λ _. acts.new.items ≡ acts.old.items ++ link_act self.now behind ∷ []) }
     {
-        kinds::change_links(
+        acts.push(kinds::change_links(
             alloc,
             self.block,
             self.links,
             self.times,
             self.parent,
             Some(behind),
-        )
+        )?)?;
+        Ok(())
     }
 }

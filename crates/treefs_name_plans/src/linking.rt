@@ -1,7 +1,7 @@
 // How one more name of an inode is carried out.
 
-ghost use Rattle.std.specs.Prelude.{◌≤◌, length};
-ghost use Rattle.treefs_name_plans.specs.LinkPlans.{link_plan};
+ghost use Rattle.std.specs.Prelude.{◌≡◌, ◌≤◌, ◌++◌, length, IfOk};
+ghost use Rattle.treefs_name_plans.specs.LinkPlans.{link_acts, link_plan};
 
 use crate::link_plan::LinkPlan;
 use std::alloc::{AllocError, Global};
@@ -17,6 +17,25 @@ pub struct Linking<'a> {
     ghost short: { length name.now ≤ 255 },
 }
 
+impl LinkPlan {
+    /// Adds the acts, where these blocks were begun.
+    fn push_acts(
+        &self,
+        alloc: Global,
+        acts: &mut Vec<Act>,
+        name: &[u8],
+        begun: &[u32],
+    ) -> Result<(), AllocError>
+        requires { length name.now ≤ 255 }
+        ensures { IfOk result (λ _. acts.new.items ≡ acts.old.items ++ link_acts self.now name.now begun.now) }
+    {
+        let addition = &self.addition;
+        addition.push_rewriting(alloc, acts)?;
+        self.more.push_act(alloc, acts, self.holder)?;
+        addition.push_acts(alloc, acts, begun, self.number, name, self.more.block)
+    }
+}
+
 impl<'a> Planned for Linking<'a> {
     ghost plan = { λ linking. link_plan linking.name.now linking.plan };
 
@@ -27,17 +46,8 @@ impl<'a> Planned for Linking<'a> {
     }
 
     fn acts(&self, alloc: Global, begun: &[u32]) -> Result<Vec<Act>, AllocError> {
-        let LinkPlan {
-            number,
-            holder,
-            more,
-            addition,
-            ..
-        } = self.plan;
         let mut acts = Vec::new(alloc);
-        addition.push_rewriting(alloc, &mut acts)?;
-        acts.push(more.act(alloc, holder)?)?;
-        addition.push_acts(alloc, &mut acts, begun, number, self.name, more.block)?;
+        self.plan.push_acts(alloc, &mut acts, self.name, begun)?;
         Ok(acts)
     }
 }

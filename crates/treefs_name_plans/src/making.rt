@@ -1,9 +1,11 @@
 // A record is made in a directory.
 
-ghost use Rattle.std.specs.Prelude.{◌≡◌, ◌++◌, ◌≤◌, length, IfOk};
-ghost use Rattle.treefs_name_plans.specs.Additions.{addition_acts, addition_starts, last_block, rewriting};
+ghost use Rattle.std.specs.Prelude.{◌≡◌, ◌∷◌, ◌++◌, [], ◌≤◌, length, IfOk, Some};
+ghost use Rattle.treefs_edits.specs.Missing.{path_acts};
+ghost use Rattle.treefs_model.specs.Acts.{record_act};
+ghost use Rattle.treefs_name_plans.specs.Additions.{addition_acts, addition_starts, bucket_path, last_block, rewriting};
 
-use crate::addition::Addition;
+use crate::addition::{Addition, NewBucket};
 use std::alloc::{AllocError, Global};
 use treefs_edits::missing::{missing_path, push_path_acts, push_path_starts};
 use treefs_edits::{Act, Start, kinds};
@@ -65,19 +67,46 @@ impl Addition {
             Addition::Behind(block, offset) => (*block, *offset),
             Addition::Rewritten(old) => (old.block, old.offset),
             Addition::Made(made) => {
-                let offsets = missing_path(made.leaf, made.missing);
-                push_path_acts(
-                    alloc,
-                    acts,
-                    made.node_type,
-                    made.owner,
-                    offsets.as_slice(),
-                    begun,
-                )?;
+                made.push_acts(alloc, acts, begun)?;
                 (last_block(begun), 0)
             }
         };
-        acts.push(kinds::make_record(alloc, block, offset, number, name, Some(behind))?)?;
-        Ok(())
+        push_record(alloc, acts, block, offset, number, name, behind)
     }
+}
+
+impl NewBucket {
+    /// Adds the acts by which it is attached, with the nodes of its path.
+    fn push_acts(&self, alloc: Global, acts: &mut Vec<Act>, begun: &[u32]) -> Result<(), AllocError>
+        ensures { IfOk result (λ _. acts.new.items
+            ≡ acts.old.items ++ path_acts self.now.node_type self.now.owner (bucket_path self.now) begun.now) }
+    {
+        let offsets = missing_path(self.leaf, self.missing);
+        push_path_acts(
+            alloc,
+            acts,
+            self.node_type,
+            self.owner,
+            offsets.as_slice(),
+            begun,
+        )
+    }
+}
+
+/// Adds the act that makes a record, behind all of a block.
+fn push_record(
+    alloc: Global,
+    acts: &mut Vec<Act>,
+    block: u32,
+    offset: u16,
+    number: u32,
+    name: &[u8],
+    behind: u32,
+) -> Result<(), AllocError>
+    requires { length name.now ≤ 255 }
+    ensures { IfOk result (λ _. acts.new.items
+        ≡ acts.old.items ++ record_act block offset (record { number = number; name = name.now }) (Some behind) ∷ []) }
+{
+    acts.push(kinds::make_record(alloc, block, offset, number, name, Some(behind))?)?;
+    Ok(())
 }

@@ -22,7 +22,7 @@ impl<'a> Planned for MakingNew<'a> {
     ghost plan = { λ making. new_plan making.name.now making.plan };
 
     fn starts(&self, alloc: Global) -> Result<Vec<Start>, AllocError> {
-        let mut starts = Vec::new(alloc);
+        let mut starts = Vec::with_capacity(alloc, 1)?;
         starts.push(Start {
             ty: u32::from(self.plan.commit.inode_type),
             bytes: self.plan.inode,

@@ -1,8 +1,9 @@
 // What is looked up before a name moves.
 
 ghost use Rattle.std.specs.Prelude.{◌≡◌, ◌≤◌, length, IfOk, OnOk};
+ghost use Rattle.treefs_model.specs.Files.{and_then};
 ghost use Rattle.treefs_lookup.specs.Readable.{readable};
-ghost use Rattle.treefs_name_plans.specs.Ends.{IsWithin};
+ghost use Rattle.treefs_name_plans.specs.Ends.{IsWithin, ended_in};
 ghost use Rattle.treefs_name_plans.specs.Moves.{IsAnyReplaceable, IsEmptyReplaceable, IsTakenReplaced, is_below, is_cycle, is_kind_directory, kinds_agree, most_above, moved_in, parent_of};
 
 use crate::ended::Ended;
@@ -144,6 +145,21 @@ fn find_any_replaceable<S: Store>(
     }
 }
 
+/// A name that ends because another inode of a kind takes it. The faults are `NoEntry` where it leads to nothing, `IsDir`, and `NotDir`.
+fn find_agreeing<S: Store>(
+    store: &S,
+    tree: Tree,
+    kind: Kind,
+    directory: u32,
+    name: &[u8],
+) -> Result<Ended, Fault>
+    ensures ended { result ≡ and_then (ended_in (readable (S.state_of store.now) tree.fs.number) tree.top directory name.now) (kinds_agree kind) }
+    ensures within { IfOk result (λ ended. IsWithin (readable (S.state_of store.now) tree.fs.number) ended.slot) }
+{
+    let ended = find_ended(store, tree, directory, name)?;
+    if_kinds_agree(kind, ended)
+}
+
 /// The end of a name of a directory that an inode of a kind takes; `taken` is its record. The faults are `NoEntry` where it leads to nothing, `IsDir`,
 /// `NotDir`, `NotEmpty`, and `Full`.
 pub fn find_taken_end<S: Store>(
@@ -160,7 +176,7 @@ pub fn find_taken_end<S: Store>(
     if taken.is_none() {
         return Ok(None);
     }
-    let ended = if_kinds_agree(kind, find_ended(store, tree, directory, name)?)?;
+    let ended = find_agreeing(store, tree, kind, directory, name)?;
     match find_any_replaceable(store, tree, memory, &ended) {
         Ok(end) => Ok(Some(end)),
         Err(fault) => Err(fault),

@@ -1,6 +1,7 @@
 // What the end of a name changes.
 
-ghost use Rattle.std.specs.Prelude.{◌≡◌, ◌++◌, IfOk};
+ghost use Rattle.std.specs.Prelude.{◌≡◌, ◌∷◌, ◌++◌, [], IfOk};
+ghost use Rattle.treefs_model.specs.Acts.{number_act};
 ghost use Rattle.treefs_name_plans.specs.Ends.{end_acts};
 
 use crate::link_change::LinkChange;
@@ -31,8 +32,22 @@ impl NameEnd {
     ) -> Result<(), AllocError>
         ensures { IfOk result (λ _. acts.new.items ≡ acts.old.items ++ end_acts self.now behind) }
     {
-        acts.push(kinds::set_number(alloc, self.block, self.offset, 0, behind)?)?;
-        acts.push(self.fewer.act(alloc, self.block)?)?;
-        Ok(())
+        push_number(alloc, acts, self.block, self.offset, 0, behind)?;
+        self.fewer.push_act(alloc, acts, self.block)
     }
+}
+
+/// Adds the act by which the number in a record changes, behind all of a block, if one is told.
+pub(crate) fn push_number(
+    alloc: Global,
+    acts: &mut Vec<Act>,
+    block: u32,
+    offset: u16,
+    number: u32,
+    behind: Option<u32>,
+) -> Result<(), AllocError>
+    ensures { IfOk result (λ _. acts.new.items ≡ acts.old.items ++ number_act block offset number behind ∷ []) }
+{
+    acts.push(kinds::set_number(alloc, block, offset, number, behind)?)?;
+    Ok(())
 }

@@ -10,12 +10,12 @@ use crate::addition::Addition;
 use crate::ended::Ended;
 use crate::endings::name_end;
 use crate::making::last_block;
-use crate::name_end::NameEnd;
+use crate::name_end::{NameEnd, push_number};
 use crate::naming::Naming;
 use crate::new_names::{addition_parts, find_addition};
 use crate::other_names::find_behind;
 use std::alloc::{AllocError, Global};
-use treefs_edits::{Act, Memory, Start, Tree, kinds};
+use treefs_edits::{Act, Memory, Start, Tree};
 use treefs_lookup::NamePlace;
 use treefs_model::Fault;
 use xn_state::Store;
@@ -106,8 +106,7 @@ impl Naming {
         match self {
             Naming::Added(addition) => addition.push_acts(alloc, acts, begun, number, name, behind),
             Naming::Replaced(end) => {
-                acts.push(kinds::set_number(alloc, end.block, end.offset, number, Some(behind))?)?;
-                Ok(())
+                push_number(alloc, acts, end.block, end.offset, number, Some(behind))
             }
         }
     }
@@ -118,10 +117,7 @@ impl Naming {
     {
         match self {
             Naming::Added(_) => Ok(()),
-            Naming::Replaced(end) => {
-                acts.push(end.fewer.act(alloc, end.block)?)?;
-                Ok(())
-            }
+            Naming::Replaced(end) => end.fewer.push_act(alloc, acts, end.block),
         }
     }
 

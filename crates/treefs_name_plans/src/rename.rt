@@ -1,6 +1,6 @@
 // How a name moves.
 
-ghost use Rattle.std.specs.Prelude.{◌≡◌, ◌≤◌, length, IfOk, OnOk, Ok};
+ghost use Rattle.std.specs.Prelude.{◌≡◌, ◌≤◌, length, IfOk, MatchBool, None, OnOk, Ok};
 ghost use Rattle.std.specs.List.{list_all};
 ghost use Rattle.treefs_lookup.specs.Readable.{readable};
 ghost use Rattle.treefs_edits.specs.Rooms.{has_room_in};
@@ -259,6 +259,38 @@ fn plan_move<S: Store>(
     }
 }
 
+/// What a move takes to a name that was looked up; `None` where that leads to the same inode.
+fn plan_found<S: Store>(
+    store: &S,
+    tree: Tree,
+    memory: &Memory,
+    moved: &Moved,
+    directory: u32,
+    new_directory: u32,
+    new_name: &[u8],
+    found: &LookedUp,
+) -> Result<Option<RenamePlan>, Fault>
+    requires old { IsWithin (readable (S.state_of store.now) tree.fs.number) moved.now.old.slot }
+    requires new { IfOk found.now.place (IsWithinBlocks (readable (S.state_of store.now) tree.fs.number)) }
+    requires place { found.now.place ≡ place_in (S.state_of store.now) tree.fs.number tree.top new_directory new_name.now }
+    ensures { MatchBool (leads_to found.now.taken moved.now.old.slot.number) (result ≡ Ok None)
+        (IsMovePlanned (S.state_of store.now) tree memory.now moved.now directory new_directory new_name.now found.now.taken result) }
+{
+    if leads_to(found.taken, moved.old.slot.number) {
+        return Ok(None);
+    }
+    plan_move(
+        store,
+        tree,
+        memory,
+        moved,
+        directory,
+        new_directory,
+        new_name,
+        found,
+    )
+}
+
 /// What it takes that a name of a directory moves to another one, maybe of another directory; `None` where that leads to the same inode, and nothing is
 /// done. The faults are those of both directories, `BadName`, `NoEntry`, and `Cycle` where a directory would stand below itself. Then, of what has
 /// the new name, `IsDir` and `NotDir` where only one of both is a directory, `NotEmpty`, and `Full` where something has to be written before it ends.
@@ -278,10 +310,7 @@ pub fn plan_rename<S: Store>(
 {
     let moved = find_moved(store, tree, directory, name, new_directory, new_name)?;
     let found = look_up(store, tree, new_directory, new_name)?;
-    if leads_to(found.taken, moved.old.slot.number) {
-        return Ok(None);
-    }
-    plan_move(
+    plan_found(
         store,
         tree,
         memory,

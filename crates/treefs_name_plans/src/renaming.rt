@@ -4,11 +4,12 @@ ghost use Rattle.std.specs.Prelude.{◌≡◌, ◌≤◌, ◌++◌, length, IfOk
 ghost use Rattle.treefs_name_plans.specs.RenamePlans.{apart_acts, both_act, moving_acts, naming_patches, rename_plan};
 
 use crate::addition::Addition;
+use crate::name_end::push_number;
 use crate::naming::Naming;
 use crate::rename_plan::{LinksBetween, Moving, RenamePlan};
 use edit_list::{Edit, Patch};
 use std::alloc::{AllocError, Global};
-use treefs_edits::{Act, Planned, Start, kinds};
+use treefs_edits::{Act, Planned, Start};
 use treefs_format::records::append_record;
 
 /// A name moves.
@@ -92,13 +93,12 @@ impl RenamePlan {
         ensures { IfOk result (λ _. acts.new.items
             ≡ acts.old.items ++ apart_acts self.now links.now begun.now (record { number = self.now.number; name = name.now })) }
     {
-        acts.push(links.more.act(alloc, links.behind)?)?;
+        links.more.push_act(alloc, acts, links.behind)?;
         self.naming
             .push_acts(alloc, acts, begun, self.number, name, self.inode)?;
         let behind = Some(self.naming.block(begun));
-        acts.push(kinds::set_number(alloc, self.block, self.offset, 0, behind)?)?;
-        acts.push(links.less.act(alloc, self.block)?)?;
-        Ok(())
+        push_number(alloc, acts, self.block, self.offset, 0, behind)?;
+        links.less.push_act(alloc, acts, self.block)
     }
 
     /// Adds the acts by which the one name is taken for the other.

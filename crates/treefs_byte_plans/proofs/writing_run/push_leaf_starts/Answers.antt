@@ -6,7 +6,7 @@ use Rattle.treefs_byte_plans.proofs.writing_run.push_leaf_starts.Goals as goal
 pub loop-left-preserved : goal.loop-left-preserved
 loop-left-preserved c = record {
   within = omega arith;
-  joined = leaf_pushed (c.args.starts.now.items ++ leaf_starts c.args.count c.args.place c.args.bytes.now) c.loop-left.starts.items c.push.new.self.items
-      c.loop-left.left c.loop-left.place c.from.result c.leaf_of.result c.front.result.now c.loop-left.rest.now c.behind-rest.result.now c.loop-left-test.true
-      c.from.ensures c.leaf_of.ensures c.front.ensures c.behind-rest.ensures c.in_ok-push.ensures.items c.loop-left.invariant.joined;
+  joined = leaf_pushed (c.args.starts.now.items ++ leaf_starts c.args.count c.args.place c.args.bytes.now) c.loop-left.starts.items
+      c.push_leaf_start.new.starts.items c.loop-left.left c.loop-left.place c.front.result.now c.loop-left.rest.now c.behind-rest.result.now
+      c.loop-left-test.true c.front.ensures c.behind-rest.ensures c.in_ok-push_leaf_start.ensures c.loop-left.invariant.joined;
 }

@@ -1,6 +1,0 @@
-use Rattle.std.proofs.Common.{arith}
-use Rattle.treefs_byte_plans.proofs.MissingLeaves.{copied}
-use Rattle.treefs_byte_plans.proofs.writing_run.leaf_of.Goals as goal
-
-pub returns : goal.returns
-returns c = copied c.args.place _ c.args.bytes.now _ (omega arith) c.copy_from_slice.ensures.after
