@@ -1,6 +1,7 @@
 // How a name moves.
 
-ghost use Rattle.std.specs.Prelude.{◌≡◌, ◌≤◌, length, IfOk, MatchBool, None, OnOk, Ok};
+ghost use Rattle.std.specs.Prelude.{◌≡◌, ◌≤◌, ◌==◌, ◌&&◌, length, not, IfOk, MatchBool, None, OnOk, Ok};
+ghost use Rattle.treefs_edits.specs.Memories.{is_past};
 ghost use Rattle.std.specs.List.{list_all};
 ghost use Rattle.treefs_lookup.specs.Readable.{readable};
 ghost use Rattle.treefs_edits.specs.Rooms.{has_room_in};
@@ -192,6 +193,19 @@ fn linked_in_room<S: Store>(
     apart_in_room(store, tree, memory, moved, directory, naming, more)
 }
 
+/// Whether a directory that was made or moved has to be written before a name moves from a directory to another one.
+fn has_to_wait<S: Store>(
+    store: &S,
+    tree: Tree,
+    memory: &Memory,
+    directory: u32,
+    new_directory: u32,
+) -> bool
+    ensures { result ≡ (not (directory == new_directory) && not (is_past (S.state_of store.now) tree.fs.number memory.now.last_dir)) }
+{
+    directory != new_directory && memory.last_dir >= store.floor(tree.fs)
+}
+
 /// What a move takes. The faults are `Full` where a directory that was made or moved has to be written first, `Full` or `TooLarge` where there is no
 /// place for the name, and then those of the links and of room.
 fn rename_in<S: Store>(
@@ -208,7 +222,7 @@ fn rename_in<S: Store>(
     requires new { IfOk place (IsWithinBlocks (readable (S.state_of store.now) tree.fs.number)) }
     ensures { result ≡ rename_in (S.state_of store.now) tree memory.now moved.now directory new_directory place replaced }
 {
-    if directory != new_directory && memory.last_dir >= store.floor(tree.fs) {
+    if has_to_wait(store, tree, memory, directory, new_directory) {
         return Err(Fault::Full);
     }
     let naming = find_naming(store, tree, moved.directory, place, replaced)?;

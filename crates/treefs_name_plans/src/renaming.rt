@@ -56,18 +56,32 @@ impl Naming {
 }
 
 impl RenamePlan {
+    /// Adds the patches of the number in the old record, and of the new one.
+    fn push_both(
+        &self,
+        alloc: Global,
+        patches: &mut Vec<Patch>,
+        name: &[u8],
+    ) -> Result<(), AllocError>
+        requires { length name.now ≤ 255 }
+        ensures { IfOk result (λ _. patches.new.items ≡ patches.old.items
+            ++ (both_act self.now (record { number = self.now.number; name = name.now })).edit.patches) }
+    {
+        let bytes = 0u32.to_le_bytes().to_vec(alloc)?;
+        patches.push(Patch {
+            offset: self.offset,
+            bytes,
+        })?;
+        self.naming.push_patches(alloc, patches, self.number, name)
+    }
+
     /// The act that takes the one name for the other.
     fn both(&self, alloc: Global, name: &[u8]) -> Result<Act, AllocError>
         requires { length name.now ≤ 255 }
         ensures { IfOk result (λ act. act ≡ both_act self.now (record { number = self.now.number; name = name.now })) }
     {
-        let ended = Patch {
-            offset: self.offset,
-            bytes: 0u32.to_le_bytes().to_vec(alloc)?,
-        };
-        let mut patches = Vec::from_array(alloc, [ended])?;
-        self.naming
-            .push_patches(alloc, &mut patches, self.number, name)?;
+        let mut patches = Vec::with_capacity(alloc, 2)?;
+        self.push_both(alloc, &mut patches, name)?;
         Ok(Act {
             block: self.block,
             edit: Edit {
