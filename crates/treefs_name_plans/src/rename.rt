@@ -1,6 +1,6 @@
 // How a name moves.
 
-ghost use Rattle.std.specs.Prelude.{◌≡◌, ◌≤◌, ◌==◌, ◌&&◌, length, not, IfOk, MatchBool, None, OnOk, Ok};
+ghost use Rattle.std.specs.Prelude.{◌≡◌, ◌≤◌, ◌-◌, ◌==◌, ◌&&◌, drop, length, not, take, IfOk, MatchBool, None, OnOk, Ok};
 ghost use Rattle.treefs_edits.specs.Memories.{is_past};
 ghost use Rattle.std.specs.List.{list_all};
 ghost use Rattle.treefs_lookup.specs.Readable.{readable};
@@ -21,6 +21,7 @@ use crate::namings::find_naming;
 use crate::new_names::{LookedUp, look_up};
 use crate::rename_plan::{LinksBetween, Moving, RenamePlan};
 use crate::slots::narrow;
+use store_types::BLOCK_LEN;
 use treefs_edits::fronts::front;
 use treefs_edits::{Memory, Times, Tree, has_room, have_room};
 use treefs_format::buckets::room_without;
@@ -29,12 +30,21 @@ use treefs_lookup::{NamePlace, Slot};
 use treefs_model::Fault;
 use xn_state::Store;
 
+/// The bytes of a block from a place on, up to another one.
+fn bytes_before(bytes: &[u8; BLOCK_LEN], start: usize, offset: usize) -> &[u8]
+    requires { start ≤ 512 }
+    ensures bytes { result.now ≡ take (offset - start) (drop start bytes.now) }
+    ensures few { length result.now ≤ 512 }
+{
+    front(&bytes[start..], offset.saturating_sub(start))
+}
+
 /// Where a record begins once its bucket is rewritten: the live records before it stand before it then, too.
 fn rewritten_offset(old: &OldBucket, offset: usize) -> u16
     ensures { result ≡ rewritten_offset old.now offset }
 {
     let start = if old.in_inode { CONTENT } else { 0 };
-    let before = front(&old.bytes[start..], offset.saturating_sub(start));
+    let before = bytes_before(&old.bytes, start, offset);
     (start + (before.len() - room_without(before))) as u16
 }
 
