@@ -1,3 +1,4 @@
+pub mod Branches
 pub mod CutPlaces
 pub mod DroppedBlocks
 pub mod RootPointers
