@@ -92,6 +92,20 @@ pub fn play(
     Ok(played)
 }
 
+/// Makes the call that a line asks for, and prints it with what it prints. `false` where the line is no call.
+fn tell_call(
+    rt: &impl Print,
+    threads: &(impl Threads + Sync),
+    player: &mut Player,
+    line: &str,
+) -> io::Result<bool> {
+    let Some(printed) = player.call(threads, line)? else {
+        return Ok(false);
+    };
+    print!(rt; "{line}\n{printed}")?;
+    Ok(true)
+}
+
 /// Makes the calls that lines ask for, and prints each with what it prints. Answers the first line that is no call, counted from 1.
 pub fn tell(
     rt: &impl Print,
@@ -101,9 +115,8 @@ pub fn tell(
 ) -> io::Result<Option<usize>> {
     let mut player = Player::new(alloc);
     for (at, line) in calls.lines().enumerate() {
-        match player.call(threads, line)? {
-            Some(printed) => print!(rt; "{line}\n{printed}")?,
-            None => return Ok(Some(at.saturating_add(1))),
+        if !tell_call(rt, threads, &mut player, line)? {
+            return Ok(Some(at.saturating_add(1)));
         }
     }
     Ok(None)

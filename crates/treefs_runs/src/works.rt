@@ -5,9 +5,11 @@ ghost use Rattle.std.specs.Prelude.{◌<◌};
 use crate::calls::write_all;
 use crate::volumes::{Made, make_volume};
 use std::alloc::{AllocError, Global};
+use std::ops::Range;
 use std::thread::Threads;
-use treefs::Attributes;
+use treefs::{Attributes, Volume};
 use treefs_model::Fault;
+use xn_state::Store;
 
 /// How many blocks the disk has.
 const BLOCKS: u32 = 32_768;
@@ -72,9 +74,9 @@ impl Work {
         }
         let _files = make_files(alloc, made, NAMES)?;
         match self {
-            Work::Find => find(made, rounds),
-            Work::Read => read(alloc, made, rounds),
-            Work::Create | Work::Write => write(alloc, made, rounds),
+            Work::Find => find(&made.store, &made.volume, rounds),
+            Work::Read => read(alloc, &mut made.store, &mut made.volume, rounds),
+            Work::Create | Work::Write => write_files(alloc, made, rounds),
         }
     }
 }
@@ -90,38 +92,56 @@ fn name_of(number: u32) -> [u8; 10] {
     name
 }
 
+/// Makes the files of some numbers.
+fn make<S: Store>(
+    alloc: Global,
+    store: &mut S,
+    volume: &mut Volume,
+    numbers: Range<u32>,
+) -> Result<(), Fault> {
+    for number in numbers {
+        let _made = volume.create(alloc, store, TOP, &name_of(number), ATTRIBUTES)?;
+    }
+    Ok(())
+}
+
 /// Makes so many files, and writes all after every 50.
 fn make_files(alloc: Global, made: &mut Made, count: u32) -> Result<u64, Fault> {
     let Made { store, volume } = made;
-    for number in 0..count {
-        let _made = volume.create(alloc, store, TOP, &name_of(number), ATTRIBUTES)?;
-        if number % 50 == 49 {
-            let _waves = write_all(alloc, store, volume)?;
-        }
+    let mut first = 0u32;
+    for _batch in 0..count / 50 {
+        let next = first.saturating_add(50);
+        make(alloc, store, volume, first..next)?;
+        let _waves = write_all(alloc, store, volume)?;
+        first = next;
     }
+    make(alloc, store, volume, first..count)?;
     Ok(u64::from(count))
 }
 
 /// Looks names up, and answers the sum of the numbers of their inodes.
-fn find(made: &Made, rounds: u32) -> Result<u64, Fault> {
+fn find<S: Store>(store: &S, volume: &Volume, rounds: u32) -> Result<u64, Fault> {
     let mut sum = 0u64;
     for number in 0..rounds {
-        let found = made
-            .volume
-            .lookup(&made.store, TOP, &name_of(number % NAMES))?;
+        let found = volume.lookup(store, TOP, &name_of(number % NAMES))?;
         sum = sum.wrapping_add(u64::from(found));
     }
     Ok(sum)
 }
 
 /// Writes bytes to a file from its first one on.
-fn write_file(alloc: Global, made: &mut Made, number: u32, bytes: &[u8]) -> Result<(), Fault> {
-    let Made { store, volume } = made;
+fn write_file<S: Store>(
+    alloc: Global,
+    store: &mut S,
+    volume: &mut Volume,
+    number: u32,
+    bytes: &[u8],
+) -> Result<(), Fault> {
     let mut at = 0u64;
     let mut rest = bytes;
     for _piece in 0..bytes.len() {
         if rest.is_empty() {
-            break;
+            return Ok(());
         }
         let taken = volume.write_some(alloc, store, number, at, rest)?;
         at = at.saturating_add(taken as u64);
@@ -131,26 +151,47 @@ fn write_file(alloc: Global, made: &mut Made, number: u32, bytes: &[u8]) -> Resu
 }
 
 /// Reads a file of 4,096 bytes, and answers how many bytes that were.
-fn read(alloc: Global, made: &mut Made, rounds: u32) -> Result<u64, Fault> {
+fn read<S: Store>(
+    alloc: Global,
+    store: &mut S,
+    volume: &mut Volume,
+    rounds: u32,
+) -> Result<u64, Fault> {
     let mut bytes = [0u8; 4096];
-    write_file(alloc, made, 2, &bytes)?;
+    write_file(alloc, store, volume, 2, &bytes)?;
     let mut sum = 0u64;
     for _round in 0..rounds {
-        let count = made.volume.read(&made.store, 2, 0, &mut bytes)?;
+        let count = volume.read(store, 2, 0, &mut bytes)?;
         sum = sum.wrapping_add(count as u64);
     }
     Ok(sum)
 }
 
-/// Writes 4,096 bytes to so many empty files, and all that is pending after every 16; answers how many bytes that were.
-fn write(alloc: Global, made: &mut Made, rounds: u32) -> Result<u64, Fault> {
+/// Writes 4,096 bytes to the empty files of some numbers.
+fn write<S: Store>(
+    alloc: Global,
+    store: &mut S,
+    volume: &mut Volume,
+    numbers: Range<u32>,
+) -> Result<(), Fault> {
     let mut bytes = [0u8; 4096];
-    for number in 0..rounds {
+    for number in numbers {
         bytes[0] = (number % 256) as u8;
-        write_file(alloc, made, 2 + number % NAMES, &bytes)?;
-        if number % 16 == 15 {
-            let _waves = write_all(alloc, &mut made.store, &mut made.volume)?;
-        }
+        write_file(alloc, store, volume, 2 + number % NAMES, &bytes)?;
     }
+    Ok(())
+}
+
+/// Writes 4,096 bytes to so many empty files, and all that is pending after every 16; answers how many bytes that were.
+fn write_files(alloc: Global, made: &mut Made, rounds: u32) -> Result<u64, Fault> {
+    let Made { store, volume } = made;
+    let mut first = 0u32;
+    for _batch in 0..rounds / 16 {
+        let next = first.saturating_add(16);
+        write(alloc, store, volume, first..next)?;
+        let _waves = write_all(alloc, store, volume)?;
+        first = next;
+    }
+    write(alloc, store, volume, first..rounds)?;
     Ok(u64::from(rounds) * 4096)
 }
