@@ -287,18 +287,4 @@ impl<S: FlushStore + Drop> Opened<S> {
             Err(unclosed) => Err(volume_fault(&system, unclosed.fault)),
         }
     }
-
-    /// The session again.
-    pub fn into_session(self) -> Session<S>
-        ensures { result ≡ self.session }
-    {
-        let Opened {
-            session,
-            told: _,
-            folder: _,
-            system: _,
-            is_broken: _,
-        } = self;
-        session
-    }
 }

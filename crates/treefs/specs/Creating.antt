@@ -16,9 +16,9 @@ use Rattle.treefs_edits.specs.Memories.{Memory}
 use Rattle.treefs_edits.specs.declared.tree.Tree.{Tree}
 use Rattle.treefs_edits.specs.Plans.{DoesPlanned}
 use Rattle.treefs_name_plans.specs.NewPlans.{IsNewPlanned, new_plan}
+use Rattle.treefs_name_plans.specs.declared.commit_plan.CommitPlan.{CommitPlan}
 use Rattle.treefs_name_plans.specs.declared.naming.Naming.{Naming}
 use Rattle.treefs_name_plans.specs.declared.naming.Naming.TheVariants.{Added, Replaced}
-use Rattle.treefs_name_plans.specs.declared.new_plan.NewPlan.{NewPlan}
 use Rattle.treefs.specs.Committing.{BeginsInRoom, committed_memory, done_of}
 use Rattle.treefs.specs.Linking.{entry_or, record_entry}
 use Rattle.treefs.specs.Unlinking.{as_plan}
@@ -52,32 +52,32 @@ BeginDoes T state state' volume of attributes head result =
 -- Its name
 
 -- where it was not made, all is as it was
-abbrev pub new_volume : Volume → ℕ → Result NewPlan Fault → Volume
-new_volume volume directory (Ok plan) = record volume { memory = committed_memory volume.memory directory plan.commit }
+abbrev pub new_volume : Volume → ℕ → Result CommitPlan Fault → Volume
+new_volume volume directory (Ok plan) = record volume { memory = committed_memory volume.memory directory plan }
 new_volume volume directory (Err fault) = volume
 
 -- made: what was carried out
-abbrev pub NewDoes : Types → StoreState → StoreState → Volume → Volume → ℕ → List ℕ → List ℕ → Result NewPlan Fault → Type 0
+abbrev pub NewDoes : Types → StoreState → StoreState → Volume → Volume → ℕ → List ℕ → List ℕ → Result CommitPlan Fault → Type 0
 NewDoes T state state' volume volume' directory name inode made =
-    (planned : Result NewPlan Fault) × IsNewPlanned state volume.tree volume.memory directory name inode planned
-    × DoesPlanned T volume.tree.fs.number (as_plan (new_plan name) planned) state state' (done_of made)
+    (planned : Result CommitPlan Fault) × IsNewPlanned state volume.tree volume.memory directory name planned
+    × DoesPlanned T volume.tree.fs.number (as_plan (new_plan name inode) planned) state state' (done_of made)
     × MatchResult made (λ plan. planned ≡ Ok plan) (λ fault. ⊤)
     × (volume' ≡ new_volume volume directory made)
 
-abbrev pub number_of : Result NewPlan Fault → Result ℕ Fault
-number_of (Ok plan) = Ok plan.commit.number
+abbrev pub number_of : Result CommitPlan Fault → Result ℕ Fault
+number_of (Ok plan) = Ok plan.number
 number_of (Err fault) = Err fault
 
 abbrev pub CreateDoes : Types → StoreState → StoreState → Volume → Volume → ℕ → List ℕ → Attributes → Result ℕ Fault → Type 0
 CreateDoes T state state' volume volume' directory name attributes result =
     let inode = inode_bytes (new_fields volume.tree volume.memory kind.File attributes 0 0) [] in
-    (made : Result NewPlan Fault) × NewDoes T state state' volume volume' directory name inode made × (result ≡ number_of made)
+    (made : Result CommitPlan Fault) × NewDoes T state state' volume volume' directory name inode made × (result ≡ number_of made)
 
 -- the target stands in the inode block
 abbrev pub SymlinkDoes : Types → StoreState → StoreState → Volume → Volume → ℕ → List ℕ → Attributes → List ℕ → Result ℕ Fault → Type 0
 SymlinkDoes T state state' volume volume' directory name attributes target result =
     let inode = inode_bytes (new_fields volume.tree volume.memory kind.SymbolicLink attributes 0 (length target)) target in
-    (made : Result NewPlan Fault) × NewDoes T state state' volume volume' directory name inode made × (result ≡ number_of made)
+    (made : Result CommitPlan Fault) × NewDoes T state state' volume volume' directory name inode made × (result ≡ number_of made)
 
 -- the newest entry in the block of the record; a word where nothing is pending there
 abbrev pub naming_entry : StoreState → ℕ → ℕ → Naming → ℕ → ℕ
@@ -85,11 +85,11 @@ naming_entry state fs directory (Added addition) word = record_entry state fs di
 naming_entry state fs directory (Replaced end) word = entry_or (newest_entry_of state end.block) word
 
 -- the record is the last directory's
-abbrev pub moved_volume : StoreState → Volume → Result NewPlan Fault → Volume
+abbrev pub moved_volume : StoreState → Volume → Result CommitPlan Fault → Volume
 moved_volume state volume (Ok plan) =
     record volume {
       memory = record volume.memory {
-        last_dir = naming_entry state volume.tree.fs.number plan.commit.directory plan.commit.naming volume.memory.last_dir;
+        last_dir = naming_entry state volume.tree.fs.number plan.directory plan.naming volume.memory.last_dir;
       };
     }
 moved_volume state volume (Err fault) = volume
@@ -97,5 +97,5 @@ moved_volume state volume (Err fault) = volume
 abbrev pub MkdirDoes : Types → StoreState → StoreState → Volume → Volume → ℕ → List ℕ → Attributes → Result ℕ Fault → Type 0
 MkdirDoes T state state' volume volume' directory name attributes result =
     let inode = inode_bytes (new_fields volume.tree volume.memory kind.Directory attributes directory 0) [] in
-    (made : Result NewPlan Fault) × (middle : Volume) × NewDoes T state state' volume middle directory name inode made
+    (made : Result CommitPlan Fault) × (middle : Volume) × NewDoes T state state' volume middle directory name inode made
     × (volume' ≡ moved_volume state' middle made) × (result ≡ number_of made)

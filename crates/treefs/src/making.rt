@@ -30,22 +30,37 @@ pub struct FirstPlan {
     pub time: i64,
 }
 
+impl FirstPlan {
+    /// The block of inode 1.
+    fn start(&self) -> Start
+        ensures { result ≡ record { ty = self.now.tree.inode_type; bytes = inode_bytes (first_fields self.now.tree.node_type self.now.time) [] } }
+    {
+        Start {
+            ty: u32::from(self.tree.inode_type),
+            bytes: first_block(self.tree.node_type, self.time),
+        }
+    }
+}
+
 impl Planned for FirstPlan {
     ghost plan = { λ p. first_plan p.tree p.time };
 
-    fn starts(&self, alloc: Global) -> Result<Vec<Start>, AllocError> {
-        let start = Start {
-            ty: u32::from(self.tree.inode_type),
-            bytes: first_block(self.tree.node_type, self.time),
-        };
-        Ok(Vec::from_array(alloc, [start])?)
+    fn push_starts(&self, starts: &mut Vec<Start>) -> Result<(), AllocError> {
+        starts.push(self.start())?;
+        Ok(())
     }
 
-    fn acts(&self, alloc: Global, begun: &[u32]) -> Result<Vec<Act>, AllocError> {
+    fn push_acts(
+        &self,
+        alloc: Global,
+        acts: &mut Vec<Act>,
+        begun: &[u32],
+    ) -> Result<(), AllocError> {
         let tree = self.tree;
         let ty = u32::from(tree.inode_type);
         let act = kinds::attach(alloc, tree.top, FIRST_POINTER, ty, begun, None)?;
-        Ok(Vec::from_array(alloc, [act])?)
+        acts.push(act)?;
+        Ok(())
     }
 }
 

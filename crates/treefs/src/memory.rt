@@ -54,9 +54,7 @@ pub fn make_rooms(
     ensures orphan { IfOk result (λ _. vec_len orphans.new < vec_capacity orphans.new) }
     ensures err { IfErr result (λ fault. fault ≡ Fault.Kernel Refusal.NoMemory) }
 {
-    if let Err(fault) = make_room(touched, more) {
-        return Err(fault);
-    }
+    make_room(touched, more)?;
     match orphans.reserve(1) {
         Ok(()) => Ok(()),
         Err(error) => Err(lacks_memory(error)),

@@ -28,10 +28,10 @@ pub struct MarkPlan {
 impl ActsAlone for MarkPlan {
     ghost acts_of = { λ p. (mark_plan p.top p.clean).acts [] };
 
-    fn acts_alone(&self, alloc: Global) -> Result<Vec<Act>, AllocError> {
+    fn push_alone(&self, alloc: Global, acts: &mut Vec<Act>) -> Result<(), AllocError> {
         let mark = [u8::from(self.clean)];
-        let act = kinds::write_content(alloc, self.top, CLEAN, &mark, None)?;
-        Ok(Vec::from_array(alloc, [act])?)
+        acts.push(kinds::write_content(alloc, self.top, CLEAN, &mark, None)?)?;
+        Ok(())
     }
 }
 

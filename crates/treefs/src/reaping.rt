@@ -30,10 +30,10 @@ use xn_state::Store;
 impl ActsAlone for ReapPlan {
     ghost acts_of = { λ p. reap_act p ∷ [] };
 
-    fn acts_alone(&self, alloc: Global) -> Result<Vec<Act>, AllocError> {
+    fn push_alone(&self, alloc: Global, acts: &mut Vec<Act>) -> Result<(), AllocError> {
         let freed = self.freed.as_slice();
         let patch = freed_patch(alloc, freed, &self.bytes)?;
-        let act = Act {
+        acts.push(Act {
             block: self.holder,
             edit: Edit {
                 patches: Vec::from_array(alloc, [patch])?,
@@ -42,8 +42,8 @@ impl ActsAlone for ReapPlan {
                 after: None,
             },
             behind: None,
-        };
-        Ok(Vec::from_array(alloc, [act])?)
+        })?;
+        Ok(())
     }
 }
 
@@ -317,9 +317,7 @@ fn free_planned<S: Store>(
     ensures does { Does (S.types_of store.old) fs.number (reap_plan plan.now) (S.state_of store.old) (S.state_of store.new) result }
     ensures memory { memory.new ≡ reaped_memory memory.old (Ok (Some plan.now)) result }
 {
-    if let Err(fault) = carry_out(alloc, store, fs, plan) {
-        return Err(fault);
-    }
+    carry_out(alloc, store, fs, plan)?;
     forget_freed(memory, plan.freed.as_slice());
     Ok(())
 }

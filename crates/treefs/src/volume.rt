@@ -15,7 +15,7 @@ mod setting;
 mod writing_times;
 
 /// A volume of a store, with what its session keeps in memory.
-#[derive(Debug, Drop)]
+#[derive(Drop)]
 pub struct Volume {
     /// Where it stands in its store.
     pub tree: Tree,

@@ -4,7 +4,7 @@ ghost use Rattle.std.specs.Prelude.{◌≡◌, ◌∷◌, ◌++◌, [], IfOk, ma
 ghost use Rattle.treefs_byte_plans.specs.Attributes.{attributes_act, attributes_planned, mode_parts, owner_parts, set_times};
 ghost use Rattle.treefs_format.specs.Fields.{changes_patch};
 
-use crate::patches::{patches_alone, push_changes, push_times};
+use crate::patches::{patch_act, push_changes, push_times};
 use edit_list::Patch;
 use std::alloc::{AllocError, Global};
 use treefs_edits::{Act, ActsAlone, Memory, Times, Tree, has_room};
@@ -47,10 +47,11 @@ pub struct AttributesPlan {
 impl ActsAlone for AttributesPlan {
     ghost acts_of = { λ p. attributes_act p ∷ [] };
 
-    fn acts_alone(&self, alloc: Global) -> Result<Vec<Act>, AllocError> {
+    fn push_alone(&self, alloc: Global, acts: &mut Vec<Act>) -> Result<(), AllocError> {
         let mut patches = Vec::new(alloc);
         self.push_patches(alloc, &mut patches)?;
-        patches_alone(alloc, self.block, patches)
+        acts.push(patch_act(alloc, self.block, patches, None))?;
+        Ok(())
     }
 }
 

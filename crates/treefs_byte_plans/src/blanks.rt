@@ -18,11 +18,12 @@ use xn_state::Store;
 impl ActsAlone for BlankPlan {
     ghost acts_of = { λ p. blank_act p ∷ [] };
 
-    fn acts_alone(&self, alloc: Global) -> Result<Vec<Act>, AllocError> {
+    fn push_alone(&self, alloc: Global, acts: &mut Vec<Act>) -> Result<(), AllocError> {
         let mut patches = Vec::new(alloc);
         push_zeros(alloc, &mut patches, Some(self.offset))?;
         let act = patch_act(alloc, self.block, patches, self.behind);
-        Ok(Vec::from_array(alloc, [act])?)
+        acts.push(act)?;
+        Ok(())
     }
 }
 

@@ -16,7 +16,7 @@ use xn_state::Store;
 impl ActsAlone for DropPlan {
     ghost acts_of = { drop_acts };
 
-    fn acts_alone(&self, alloc: Global) -> Result<Vec<Act>, AllocError> {
+    fn push_alone(&self, alloc: Global, acts: &mut Vec<Act>) -> Result<(), AllocError> {
         let place = u16::from(self.place);
         let act = kinds::drop_blocks(
             alloc,
@@ -26,7 +26,8 @@ impl ActsAlone for DropPlan {
             self.blocks.as_slice(),
             Some(self.inode),
         )?;
-        Ok(Vec::from_array(alloc, [act])?)
+        acts.push(act)?;
+        Ok(())
     }
 }
 

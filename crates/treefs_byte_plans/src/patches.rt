@@ -1,6 +1,6 @@
 // Acts of several patches.
 
-ghost use Rattle.std.specs.Prelude.{◌≡◌, ◌≢◌, ◌∷◌, ◌++◌, [], IfOk, IsTrue, None};
+ghost use Rattle.std.specs.Prelude.{◌≡◌, ◌≢◌, ◌∷◌, ◌++◌, [], IfOk, IsTrue};
 ghost use Rattle.treefs_format.specs.Fields.{are_adjoining, changes_patch};
 ghost use Rattle.treefs_model.specs.Acts.{patch_act};
 
@@ -23,18 +23,6 @@ pub(crate) fn patch_act(alloc: Global, block: u32, patches: Vec<Patch>, behind: 
         },
         behind,
     }
-}
-
-/// The one edit of a block that has these patches, behind no other, and changes nothing of what the block points to.
-pub(crate) fn patches_alone(
-    alloc: Global,
-    block: u32,
-    patches: Vec<Patch>,
-) -> Result<Vec<Act>, AllocError>
-    ensures { IfOk result (λ acts. acts.items ≡ patch_act block patches.items None ∷ []) }
-{
-    let act = patch_act(alloc, block, patches, None);
-    Ok(Vec::from_array(alloc, [act])?)
 }
 
 /// Adds the patch of some fields of an inode that stand side by side. `Err` comes only for want of memory.

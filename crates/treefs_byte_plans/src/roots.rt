@@ -20,12 +20,13 @@ const OWN_LEAVES: u32 = 16;
 impl ActsAlone for RootsPlan {
     ghost acts_of = { λ p. pointers_act p.inode p.trees.items p.leaves.items ∷ [] };
 
-    fn acts_alone(&self, alloc: Global) -> Result<Vec<Act>, AllocError> {
+    fn push_alone(&self, alloc: Global, acts: &mut Vec<Act>) -> Result<(), AllocError> {
         let mut patches = Vec::new(alloc);
         self.push_patches(alloc, &mut patches)?;
         let mut drops = Vec::new(alloc);
         self.push_drops(&mut drops)?;
-        drops_alone(alloc, self.inode, patches, drops)
+        acts.push(drops_act(alloc, self.inode, patches, drops))?;
+        Ok(())
     }
 }
 
@@ -47,17 +48,12 @@ impl RootsPlan {
     }
 }
 
-/// The one edit of a block that has these patches, and drops these blocks.
-fn drops_alone(
-    alloc: Global,
-    block: u32,
-    patches: Vec<Patch>,
-    drops: Vec<u32>,
-) -> Result<Vec<Act>, AllocError>
-    ensures { IfOk result (λ acts. acts.items
-        ≡ record { block = block; edit = record { patches = patches.items; adds = []; drops = drops.items; after = None }; behind = None } ∷ []) }
+/// The edit of a block that has these patches, and drops these blocks.
+fn drops_act(alloc: Global, block: u32, patches: Vec<Patch>, drops: Vec<u32>) -> Act
+    ensures { result
+        ≡ record { block = block; edit = record { patches = patches.items; adds = []; drops = drops.items; after = None }; behind = None } }
 {
-    let act = Act {
+    Act {
         block,
         edit: Edit {
             patches,
@@ -66,8 +62,7 @@ fn drops_alone(
             after: None,
         },
         behind: None,
-    };
-    Ok(Vec::from_array(alloc, [act])?)
+    }
 }
 
 /// Adds zeros over each of some pointers.

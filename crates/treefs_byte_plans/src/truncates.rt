@@ -9,7 +9,7 @@ ghost use Rattle.treefs_lookup.specs.Readable.{readable};
 use crate::fields::{push_size, times_now};
 use crate::keeping::{find_untrimmed, kept_up_to};
 use crate::kept::Kept;
-use crate::patches::patches_alone;
+use crate::patches::patch_act;
 use crate::size::SizePlan;
 use edit_list::Patch;
 use std::alloc::{AllocError, Global};
@@ -23,11 +23,12 @@ use xn_state::Store;
 impl ActsAlone for SizePlan {
     ghost acts_of = { λ p. size_act p ∷ [] };
 
-    fn acts_alone(&self, alloc: Global) -> Result<Vec<Act>, AllocError> {
+    fn push_alone(&self, alloc: Global, acts: &mut Vec<Act>) -> Result<(), AllocError> {
         let mut patches = Vec::new(alloc);
         push_size(alloc, &mut patches, self.size, self.times)?;
         push_zeros(alloc, &mut patches, self.blank_from)?;
-        patches_alone(alloc, self.block, patches)
+        acts.push(patch_act(alloc, self.block, patches, None))?;
+        Ok(())
     }
 }
 

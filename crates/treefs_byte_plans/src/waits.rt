@@ -17,16 +17,8 @@ use xn_state::Store;
 impl ActsAlone for WaitsPlan {
     ghost acts_of = { λ p. map (wait_act p.inode (p.first ∷ [])) p.others.items };
 
-    fn acts_alone(&self, alloc: Global) -> Result<Vec<Act>, AllocError> {
-        let mut acts = Vec::new(alloc);
-        push_waits(
-            alloc,
-            &mut acts,
-            self.inode,
-            self.first,
-            self.others.as_slice(),
-        )?;
-        Ok(acts)
+    fn push_alone(&self, alloc: Global, acts: &mut Vec<Act>) -> Result<(), AllocError> {
+        push_waits(alloc, acts, self.inode, self.first, self.others.as_slice())
     }
 }
 

@@ -13,7 +13,7 @@ ghost use Rattle.treefs_model.specs.Reading.{leaf_block};
 use crate::fields::{push_raise, push_size, risen, times_now};
 use crate::keeping::find_untrimmed;
 use crate::kept::Kept;
-use crate::patches::patches_alone;
+use crate::patches::patch_act;
 use crate::piece::{ContentPlan, LeafPlan, WriteStep};
 use crate::runs::plan_run;
 use edit_list::Patch;
@@ -28,29 +28,19 @@ use xn_state::Store;
 impl ActsAlone for ContentPlan<'_> {
     ghost acts_of = { content_acts };
 
-    fn acts_alone(&self, alloc: Global) -> Result<Vec<Act>, AllocError> {
+    fn push_alone(&self, alloc: Global, acts: &mut Vec<Act>) -> Result<(), AllocError> {
         let mut patches = Vec::new(alloc);
         push_bytes(alloc, &mut patches, self.offset, self.bytes)?;
         push_size(alloc, &mut patches, self.size, self.times)?;
-        patches_alone(alloc, self.block, patches)
+        acts.push(patch_act(alloc, self.block, patches, None))?;
+        Ok(())
     }
 }
 
 impl ActsAlone for LeafPlan<'_> {
     ghost acts_of = { leaf_acts };
 
-    fn acts_alone(&self, alloc: Global) -> Result<Vec<Act>, AllocError> {
-        let mut acts = Vec::new(alloc);
-        self.push_acts(alloc, &mut acts)?;
-        Ok(acts)
-    }
-}
-
-impl LeafPlan<'_> {
-    /// Adds the acts.
-    fn push_acts(&self, alloc: Global, acts: &mut Vec<Act>) -> Result<(), AllocError>
-        ensures { IfOk result (λ _. acts.new.items ≡ acts.old.items ++ leaf_acts self.now) }
-    {
+    fn push_alone(&self, alloc: Global, acts: &mut Vec<Act>) -> Result<(), AllocError> {
         acts.push(kinds::write_bytes(alloc, self.leaf, self.offset, self.bytes, None)?)?;
         push_raise(alloc, acts, self.inode, self.size, self.times, self.leaf)
     }

@@ -187,23 +187,25 @@ impl RunPlan {
 impl<'a> Planned for WritingRun<'a> {
     ghost plan = { λ writing. run_plan writing.bytes.now writing.plan };
 
-    fn starts(&self, alloc: Global) -> Result<Vec<Start>, AllocError> {
+    fn push_starts(&self, starts: &mut Vec<Start>) -> Result<(), AllocError> {
         let plan = &self.plan;
         let offsets = missing_path(plan.leaf, plan.missing);
         let nodes = front(offsets.as_slice(), plan.missing.saturating_sub(1));
-        let mut starts = Vec::with_capacity(alloc, nodes.len() + plan.count as usize)?;
-        push_node_starts(&mut starts, plan.node_type, LEAF_TYPE, nodes)?;
+        starts.reserve_exact(nodes.len() + plan.count as usize)?;
+        push_node_starts(starts, plan.node_type, LEAF_TYPE, nodes)?;
         let place = (plan.at % LEAF_LEN) as usize;
-        push_leaf_starts(&mut starts, plan.count, place, self.bytes)?;
-        Ok(starts)
+        push_leaf_starts(starts, plan.count, place, self.bytes)
     }
 
-    fn acts(&self, alloc: Global, begun: &[u32]) -> Result<Vec<Act>, AllocError> {
+    fn push_acts(
+        &self,
+        alloc: Global,
+        acts: &mut Vec<Act>,
+        begun: &[u32],
+    ) -> Result<(), AllocError> {
         let plan = &self.plan;
         let offsets = missing_path(plan.leaf, plan.missing);
         let nodes = front(offsets.as_slice(), plan.missing.saturating_sub(1)).len();
-        let mut acts = Vec::new(alloc);
-        plan.push_acts(alloc, &mut acts, front(begun, nodes), behind(begun, nodes))?;
-        Ok(acts)
+        plan.push_acts(alloc, acts, front(begun, nodes), behind(begun, nodes))
     }
 }

@@ -7,7 +7,7 @@ use crate::times::Times;
 use std::marker::Model;
 
 /// Times of an inode that no edit has written yet.
-#[derive(Clone, Copy, Debug)]
+#[derive(Clone, Copy)]
 pub struct Touched {
     /// The inode.
     pub number: u32,
@@ -16,7 +16,7 @@ pub struct Touched {
 }
 
 /// What a session keeps in memory of a volume, beside what its blocks say.
-#[derive(Debug, Drop)]
+#[derive(Drop)]
 pub struct Memory {
     /// The caller's time, in nanoseconds since 1970.
     pub clock: i64,

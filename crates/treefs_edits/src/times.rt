@@ -1,7 +1,7 @@
 // The times of an inode.
 
 /// The times of an inode, in nanoseconds since 1970.
-#[derive(Clone, Copy, Debug, PartialEq, Eq)]
+#[derive(Clone, Copy, PartialEq, Eq)]
 pub struct Times {
     /// When its content changed.
     pub mtime: i64,

@@ -3,7 +3,7 @@
 use edit_list::Fs;
 
 /// Where a volume stands in its store.
-#[derive(Clone, Copy, Debug)]
+#[derive(Clone, Copy)]
 pub struct Tree {
     /// Its file system.
     pub fs: Fs,

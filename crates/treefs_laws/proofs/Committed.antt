@@ -51,9 +51,9 @@ module _ (T : Types) (state state' : StoreState) (volume : Volume) (d : ℕ) (na
   pub here : IsAt T fs node inode top state
   here = record { store = kept.store; root = is_open.root; volume = kept.bytes }
 
-  module _ (plan : CommitPlan) (p : IsFirstPlan state volume.tree volume.memory d name [] plan) where
+  module _ (plan : CommitPlan) (p : IsFirstPlan state volume.tree volume.memory d name plan) where
     abbrev commit : CommitPlan
-    commit = commit_of state volume.tree volume.memory d name [] p.n p.directory p.addition
+    commit = commit_of state volume.tree volume.memory d name p.n p.directory p.addition
 
     abbrev all : List Start
     all = starts T state state' volume d name is_open wide value [] p.n p.directory p.free p.next p.addition p.addition_found
@@ -104,7 +104,7 @@ module _ (T : Types) (state state' : StoreState) (volume : Volume) (d : ℕ) (na
       of_read (Ok bytes) x plan e = same_done x plan e
       of_read (Err reason) x plan e = absurd (cc e)
 
-  pub first_said : (replace : Bool) (volume' : Volume) (n : ℕ) (plan : CommitPlan) → IsFirstPlan state volume.tree volume.memory d name [] plan →
+  pub first_said : (replace : Bool) (volume' : Volume) (n : ℕ) (plan : CommitPlan) → IsFirstPlan state volume.tree volume.memory d name plan →
       IsPlanned replace volume' n plan → IsOpen T state' volume' × MakesInode state state' volume volume' d name n value
   first_said replace volume' n plan p (is_planned, does, number, is) =
       let does' = subst (λ x. Does T fs (commit_plan name block x) state state' (Ok tt)) p.plan_is does in
@@ -118,4 +118,4 @@ module _ (T : Types) (state state' : StoreState) (volume : Volume) (d : ℕ) (na
       IsOpen T state' volume' × MakesInode state state' volume volume' d name n value
   committed_said volume' n does =
       let c = planned_so false volume' n does in
-      first_said false volume' n c.0 (first_planned state volume.tree volume.memory d name [] c.0 c.1.0) c.1
+      first_said false volume' n c.0 (first_planned state volume.tree volume.memory d name c.0 c.1.0) c.1

@@ -19,7 +19,6 @@ use Rattle.treefs_edits.specs.declared.start.Start.{Start}
 use Rattle.treefs_name_plans.specs.CommitPlans.{commit_acts}
 use Rattle.treefs_name_plans.specs.NewPlans.{IsNewPlanned, new_plan}
 use Rattle.treefs_name_plans.specs.declared.commit_plan.CommitPlan.{CommitPlan}
-use Rattle.treefs_name_plans.specs.declared.new_plan.NewPlan.{NewPlan}
 use Rattle.treefs.specs.Committing.{committed_memory}
 use Rattle.treefs.specs.Creating.{NewDoes, new_fields}
 use Rattle.treefs.specs.Unlinking.{as_plan}
@@ -37,10 +36,10 @@ use Rattle.treefs_laws.proofs.InDirectory.{number_few}
 use Rattle.treefs_laws.proofs.NewPlanned.{IsNewPlan, commit_of, new_planned}
 
 -- a directory that is there has a number of 32 bits
-pub directory_few : (T : Types) (state state' : StoreState) (volume middle : Volume) (d : ℕ) (name bytes : List ℕ) (plan : NewPlan) →
+pub directory_few : (T : Types) (state state' : StoreState) (volume middle : Volume) (d : ℕ) (name bytes : List ℕ) (plan : CommitPlan) →
     NewDoes T state state' volume middle d name bytes (Ok plan) → d < 2 ^ 32
 directory_few T state state' volume middle d name bytes plan (planned, is_planned, does, ok, is) =
-    let p = new_planned state volume.tree volume.memory d name bytes plan (subst (IsNewPlanned state volume.tree volume.memory d name bytes) ok is_planned) in
+    let p = new_planned state volume.tree volume.memory d name plan (subst (IsNewPlanned state volume.tree volume.memory d name) ok is_planned) in
     let found = (directory_is (readable state volume.tree.fs.number) volume.tree.top d p.free.found p.free.found_is).0 in
     number_few (readable state volume.tree.fs.number) volume.tree.top d found.number found.there
 
@@ -95,9 +94,9 @@ module _ (T : Types) (state state' : StoreState) (volume : Volume) (d : ℕ) (na
   here : IsAt T fs node inode top state
   here = record { store = kept.store; root = is_open.root; volume = kept.bytes }
 
-  module _ (plan : NewPlan) (p : IsNewPlan state volume.tree volume.memory d name (inode_bytes fields head) plan) where
+  module _ (plan : CommitPlan) (p : IsNewPlan state volume.tree volume.memory d name plan) where
     abbrev commit : CommitPlan
-    commit = commit_of state volume.tree volume.memory d name (inode_bytes fields head) p.n p.directory p.addition
+    commit = commit_of state volume.tree volume.memory d name p.n p.directory p.addition
 
     abbrev behind : List Start
     behind = starts T state state' volume d name is_open wide value (inode_bytes fields head) p.n p.directory p.free p.next p.addition p.addition_found
@@ -130,7 +129,7 @@ module _ (T : Types) (state state' : StoreState) (volume : Volume) (d : ℕ) (na
           (mode_kind k attributes.permissions fit.permissions) empty h read)) ys of.2 news.2 news.1 news.0
           (subst (λ bs. Ran T fs (commit_acts commit name (slice_index bs 0) (drop 1 bs)) b0 state' (Ok tt)) blocks ran)
 
-    carried : Does T fs (new_plan name (record { inode = inode_bytes fields head; commit = commit })) state state' (Ok tt) → Done
+    carried : Does T fs (new_plan name (inode_bytes fields head) commit) state state' (Ok tt) → Done
     carried does = elim does [
       | inl none ↦ absurd none
       | inr r ↦ (λ (b : AreBegun T fs node inode top is_open.few is_open.tree all [] r.0 state r.1). from_begun r.0 r.1 b r.3 b.made b.blocks_are b.of b.news)
@@ -139,16 +138,16 @@ module _ (T : Types) (state state' : StoreState) (volume : Volume) (d : ℕ) (na
 
   -- The call
 
-  pub new_said : (volume' : Volume) (plan : NewPlan) → NewDoes T state state' volume volume' d name (inode_bytes fields head) (Ok plan) →
-      IsOpen T state' volume' × MakesInode state state' volume volume' d name plan.commit.number value
+  pub new_said : (volume' : Volume) (plan : CommitPlan) → NewDoes T state state' volume volume' d name (inode_bytes fields head) (Ok plan) →
+      IsOpen T state' volume' × MakesInode state state' volume volume' d name plan.number value
   new_said volume' plan (planned, is_planned, does, ok, is) =
-      let p = new_planned state volume.tree volume.memory d name (inode_bytes fields head) plan (subst (IsNewPlanned state volume.tree volume.memory d name (inode_bytes fields head)) ok is_planned) in
-      let does' = subst (λ x. DoesPlanned T fs (as_plan (new_plan name) x) state state' (Ok tt)) (ok ∙ ap Ok p.plan_is) does in
+      let p = new_planned state volume.tree volume.memory d name plan (subst (IsNewPlanned state volume.tree volume.memory d name) ok is_planned) in
+      let does' = subst (λ x. DoesPlanned T fs (as_plan (new_plan name (inode_bytes fields head)) x) state state' (Ok tt)) (ok ∙ ap Ok p.plan_is) does in
       let whole = said T state state' volume d name is_open wide value (inode_bytes fields head) p.n p.directory p.free p.next p.addition p.addition_found (carried plan p does') in
-      let plan_same : record { inode = inode_bytes fields head; commit = commit plan p } ≡ plan = sym p.plan_is in
-      subst (λ v. IsOpen T state' v × MakesInode state state' volume v d name plan.commit.number value) (sym is)
-      (subst (λ (q : NewPlan). IsOpen T state' (record volume { memory = committed_memory volume.memory d q.commit })
-      × MakesInode state state' volume (record volume { memory = committed_memory volume.memory d q.commit }) d name q.commit.number value) plan_same whole)
+      let plan_same : commit plan p ≡ plan = sym p.plan_is in
+      subst (λ v. IsOpen T state' v × MakesInode state state' volume v d name plan.number value) (sym is)
+      (subst (λ (q : CommitPlan). IsOpen T state' (record volume { memory = committed_memory volume.memory d q })
+      × MakesInode state state' volume (record volume { memory = committed_memory volume.memory d q }) d name q.number value) plan_same whole)
 
   -- a directory's record is noted
   pub noted : (volume' : Volume) (n word : ℕ) → IsOpen T state' volume' × MakesInode state state' volume volume' d name n value →

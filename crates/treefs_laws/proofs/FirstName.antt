@@ -119,7 +119,7 @@ module _ (T : Types) (state state' : StoreState) (volume : Volume) (d : ℕ) (na
   n_within = let low = next.some in let high = next.few in omega arith
 
   abbrev commit : CommitPlan
-  commit = commit_of state volume.tree volume.memory d name bytes n c addition
+  commit = commit_of state volume.tree volume.memory d name n c addition
 
   abbrev pub starts : List Start
   starts = node_starts node inode (table_nodes commit) ++ addition_starts addition

@@ -22,7 +22,7 @@ module _ (T : Types) (state state' : StoreState) (volume : Volume) (d : ℕ) (na
   created_so volume' n (Err fault, does, e) = absurd (cc e)
   created_so volume' n (Ok plan, does, e) =
       subst (λ m. IsOpen T state' volume' × MakesInode state state' volume volume' d name m (new_inode volume.memory.clock attributes (File [])))
-      (sym (same_done n plan.commit.number e))
+      (sym (same_done n plan.number e))
       (new_said T state state' volume d name is_open wide kind.File attributes fit 0 (omega arith) [] (All-nil (λ b. b < 256)) (omega arith) (λ is. refl) volume' plan does)
 
   pub symlinked_so : (target : List ℕ) → All (λ b. b < 256) target → length target ≤ 384 → (volume' : Volume) (n : ℕ) →
@@ -31,7 +31,7 @@ module _ (T : Types) (state state' : StoreState) (volume : Volume) (d : ℕ) (na
   symlinked_so target target_wide short volume' n (Err fault, does, e) = absurd (cc e)
   symlinked_so target target_wide short volume' n (Ok plan, does, e) =
       subst (λ m. IsOpen T state' volume' × MakesInode state state' volume volume' d name m (new_inode volume.memory.clock attributes (SymbolicLink target)))
-      (sym (same_done n plan.commit.number e))
+      (sym (same_done n plan.number e))
       (new_said T state state' volume d name is_open wide kind.SymbolicLink attributes fit 0 (omega arith) target target_wide short (λ is. absurd (cc is)) volume' plan does)
 
   pub directory_so : (volume' : Volume) (n : ℕ) → MkdirDoes T state state' volume volume' d name attributes (Ok n) →
@@ -42,6 +42,6 @@ module _ (T : Types) (state state' : StoreState) (volume : Volume) (d : ℕ) (na
       let made = new_said T state state' volume d name is_open wide kind.Directory attributes fit d few [] (All-nil (λ b. b < 256)) (omega arith) (λ is. refl) middle plan does in
       subst (λ v. IsOpen T state' v × MakesInode state state' volume v d name n (new_inode volume.memory.clock attributes (Directory d (λ x. None)))) (sym is)
       (noted T state state' volume d name is_open wide kind.Directory attributes fit d few [] (All-nil (λ b. b < 256)) (omega arith) (λ is. refl) middle n
-      (naming_entry state' middle.tree.fs.number plan.commit.directory plan.commit.naming middle.memory.last_dir)
+      (naming_entry state' middle.tree.fs.number plan.directory plan.naming middle.memory.last_dir)
       (subst (λ m. IsOpen T state' middle × MakesInode state state' volume middle d name m (new_inode volume.memory.clock attributes (Directory d (λ x. None))))
-      (sym (same_done n plan.commit.number e)) made))
+      (sym (same_done n plan.number e)) made))

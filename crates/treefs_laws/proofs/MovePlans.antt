@@ -144,7 +144,7 @@ module _ (state : StoreState) (volume : Volume) (d : ℕ) (name : List ℕ) (to 
         by : (t : Bool) → is_kind_directory ended.inode.kind ≡ t → MatchBool t (IsEmptyReplaceable state fs memory ended (Ok end)) (IsReplaceable state fs memory ended (Ok end)) →
             (end ≡ name_end memory ended) × (ended.inode.kind ≡ kind.Directory → AreWithout state fs ended.inode.block Live 0 (leaf_count + 1))
         by false h (other, is, e) = (
-          written_end state tree memory to new [] end ended other e,
+          written_end state tree memory to new end ended other e,
           λ one. absurd (cc (sym (ap is_kind_directory one) ∙ h)),
         )
         by true h (true, has, e) = absurd (cc e)

@@ -33,7 +33,7 @@ use Rattle.treefs_name_plans.specs.CommitPlans.{IsCommitPlanned, IsNumberFound, 
 use Rattle.treefs_name_plans.specs.Ends.{ended_in, file_ended, if_no_directory, name_end}
 use Rattle.treefs_name_plans.specs.Namings.{IsReplaceable, if_written, naming_in, naming_parts}
 use Rattle.treefs_name_plans.specs.NewNames.{addition_at, addition_in, directory_for, free_name, if_free, if_taken, place_in, taken_in}
-use Rattle.treefs_name_plans.specs.NewPlans.{IsNewPlanned, free_in_room, new_in_room}
+use Rattle.treefs_name_plans.specs.NewPlans.{IsNewPlanned, free_in_room}
 use Rattle.treefs_name_plans.specs.declared.addition.Addition.{Addition}
 use Rattle.treefs_name_plans.specs.declared.addition.Addition.TheVariants.{Behind, Rewritten, Made}
 use Rattle.treefs_name_plans.specs.declared.addition.NewBucket.{NewBucket}
@@ -46,7 +46,6 @@ use Rattle.treefs_format.specs.declared.kind.Kind.TheVariants as kind
 use Rattle.std.proofs.lemmas.Option.{same_Some}
 use Rattle.xn_model.specs.PendingIn.{newest_entry_of}
 use Rattle.treefs_name_plans.specs.declared.naming.Naming.TheVariants.{Added, Replaced}
-use Rattle.treefs_name_plans.specs.declared.new_plan.NewPlan.{NewPlan}
 use Rattle.treefs_values.proofs.ForCallers.{AreFree, IsPlace, in_leaf}
 use Rattle.treefs_laws.proofs.NewPlaces.{IsPlaceFor, place_for}
 use Rattle.treefs_laws.proofs.Planned.{same_done, then_ok}
@@ -202,7 +201,7 @@ module _ (state : StoreState) (tree : Tree) (d c : ℕ) (name : List ℕ) (c_som
 
 -- What is planned
 
-module _ (state : StoreState) (tree : Tree) (memory : Memory) (d : ℕ) (name inode : List ℕ) where
+module _ (state : StoreState) (tree : Tree) (memory : Memory) (d : ℕ) (name : List ℕ) where
   abbrev contents : ℕ → List ℕ
   contents = readable state tree.fs.number
 
@@ -217,14 +216,14 @@ module _ (state : StoreState) (tree : Tree) (memory : Memory) (d : ℕ) (name in
     naming = Added addition;
   }
 
-  pub record IsNewPlan (plan : NewPlan) : Type 0 where
+  pub record IsNewPlan (plan : CommitPlan) : Type 0 where
     pub directory : ℕ
     pub free : IsFreeName contents tree.top d name directory
     pub n : ℕ
     pub next : IsNextNumber state tree.fs.number tree.top memory.hint n
     pub addition : Addition
     pub addition_found : addition_in state tree d directory name ≡ Ok addition
-    pub plan_is : plan ≡ record { inode = inode; commit = commit_of n directory addition }
+    pub plan_is : plan ≡ commit_of n directory addition
 
   in_room : (edits n directory : ℕ) (addition : Addition) (commit : CommitPlan) → commit_in_room state tree memory edits n directory (Added addition) ≡ Ok commit →
       commit ≡ commit_of n directory addition
@@ -236,7 +235,10 @@ module _ (state : StoreState) (tree : Tree) (memory : Memory) (d : ℕ) (name in
       by true e = sym (same_done (commit_of n directory addition) commit e)
       by false e = absurd (cc e)
 
-  pub new_planned : (plan : NewPlan) → IsNewPlanned state tree memory d name inode (Ok plan) → IsNewPlan plan
+  abbrev named_by : ℕ → ℕ → Addition → Result CommitPlan Fault
+  named_by n directory a = commit_in_room state tree memory 31 n directory (Added a)
+
+  pub new_planned : (plan : CommitPlan) → IsNewPlanned state tree memory d name (Ok plan) → IsNewPlan plan
   new_planned plan planned = by (free_in_room state tree memory d name) refl planned
     where
       free_of : (directory : ℕ) → free_in_room state tree memory d name ≡ Ok directory → IsFreeName contents tree.top d name directory
@@ -251,13 +253,12 @@ module _ (state : StoreState) (tree : Tree) (memory : Memory) (d : ℕ) (name in
 
       by : (r : Result ℕ Fault) → free_in_room state tree memory d name ≡ r →
           MatchResult r (λ directory. (number : Result ℕ Fault) × IsNumberFound state tree memory number
-          × (◌≡◌ {A = Result NewPlan Fault} (Ok plan) (and_then number (λ n. and_then (addition_in state tree d directory name) (new_in_room state tree memory n directory inode)))))
-          (λ fault. ◌≡◌ {A = Result NewPlan Fault} (Ok plan) (Err fault)) → IsNewPlan plan
+          × (◌≡◌ {A = Result CommitPlan Fault} (Ok plan) (and_then number (λ n. and_then (addition_in state tree d directory name) (named_by n directory)))))
+          (λ fault. ◌≡◌ {A = Result CommitPlan Fault} (Ok plan) (Err fault)) → IsNewPlan plan
       by (Err fault) is e = absurd (cc e)
       by (Ok directory) is (Err fault, number, e) = absurd (cc e)
       by (Ok directory) is (Ok n, number, e) =
-          let one = then_ok (addition_in state tree d directory name) (new_in_room state tree memory n directory inode) plan (sym e) in
-          let two = then_ok (commit_in_room state tree memory 31 n directory (Added one.0)) (λ commit. Ok (record { inode = inode; commit = commit })) plan one.2 in
+          let one = then_ok (addition_in state tree d directory name) (named_by n directory) plan (sym e) in
           record {
             directory = directory;
             free = free_of directory is;
@@ -265,8 +266,7 @@ module _ (state : StoreState) (tree : Tree) (memory : Memory) (d : ℕ) (name in
             next = number;
             addition = one.0;
             addition_found = one.1;
-            plan_is = sym (same_done (record { inode = inode; commit = two.0 }) plan two.2)
-                ∙ ap (λ (c : CommitPlan). record { inode = inode; commit = c }) (in_room 31 n directory one.0 two.0 two.1);
+            plan_is = in_room 31 n directory one.0 plan one.2;
           }
 
   -- of an inode that was begun, where nothing is replaced

@@ -32,7 +32,7 @@ use Rattle.treefs_name_plans.specs.Ends.{IsOtherBucket, ends_alone, file_ended, 
 use Rattle.treefs_name_plans.specs.LinkPlans.{link_in_room, link_plan, link_planned, linkable as plan_linkable, more_links, one_more}
 use Rattle.treefs_name_plans.specs.Namings.{IsReplaceable, if_written, naming_in}
 use Rattle.treefs_name_plans.specs.NewNames.{addition_at, addition_in, directory_for, free_name, if_free, place_in, taken_in}
-use Rattle.treefs_name_plans.specs.NewPlans.{IsNewPlanned, free_in_room, new_in_room, new_plan}
+use Rattle.treefs_name_plans.specs.NewPlans.{IsNewPlanned, free_in_room, new_plan}
 use Rattle.treefs_name_plans.specs.declared.addition.Addition.{Addition}
 use Rattle.treefs_name_plans.specs.declared.commit_plan.CommitPlan.{CommitPlan}
 use Rattle.treefs_name_plans.specs.declared.ended.Ended.{Ended}
@@ -41,7 +41,6 @@ use Rattle.treefs_name_plans.specs.declared.link_plan.LinkPlan.{LinkPlan}
 use Rattle.treefs_name_plans.specs.declared.name_end.NameEnd.{NameEnd}
 use Rattle.treefs_name_plans.specs.declared.naming.Naming.{Naming}
 use Rattle.treefs_name_plans.specs.declared.naming.Naming.TheVariants.{Added}
-use Rattle.treefs_name_plans.specs.declared.new_plan.NewPlan.{NewPlan}
 use Rattle.treefs.specs.Committing.{CommitDoes, committed_volume, if_readable}
 use Rattle.treefs.specs.Creating.{CreateDoes, MkdirDoes, NewDoes, SymlinkDoes, moved_volume, number_of as number_of_plan}
 use Rattle.treefs.specs.Linking.{LinkDoes, linked_volume}
@@ -172,9 +171,12 @@ module _ (state : StoreState) (volume : Volume) (d : ℕ) (name : List ℕ) (g :
 
   -- a new inode with its first name
 
-  new_fault : (inode : List ℕ) → IsNewPlanned state tree memory d name inode (Err g) → (new_name seen d name ≡ Err g) ⊎ IsNoNumber g
-  new_fault inode planned = by (free_in_room state tree memory d name) refl planned
+  new_fault : IsNewPlanned state tree memory d name (Err g) → (new_name seen d name ≡ Err g) ⊎ IsNoNumber g
+  new_fault planned = by (free_in_room state tree memory d name) refl planned
     where
+      named_by : ℕ → ℕ → Addition → Result CommitPlan Fault
+      named_by n directory a = commit_in_room state tree memory 31 n directory (Added a)
+
       if_roomy : ℕ → Result ℕ Fault
       if_roomy directory = if has_room state fs (length memory.touched) 2 [] then Ok directory else Err Full
 
@@ -184,19 +186,16 @@ module _ (state : StoreState) (volume : Volume) (d : ℕ) (name : List ℕ) (g :
 
       by : (r : Result ℕ Fault) → free_in_room state tree memory d name ≡ r →
           MatchResult r (λ directory. (number : Result ℕ Fault) × IsNumberFound state tree memory number
-          × (◌≡◌ {A = Result NewPlan Fault} (Err g) (and_then number (λ n. and_then (addition_in state tree d directory name) (new_in_room state tree memory n directory inode)))))
-          (λ fault. ◌≡◌ {A = Result NewPlan Fault} (Err g) (Err fault)) → (new_name seen d name ≡ Err g) ⊎ IsNoNumber g
+          × (◌≡◌ {A = Result CommitPlan Fault} (Err g) (and_then number (λ n. and_then (addition_in state tree d directory name) (named_by n directory)))))
+          (λ fault. ◌≡◌ {A = Result CommitPlan Fault} (Err g) (Err fault)) → (new_name seen d name ≡ Err g) ⊎ IsNoNumber g
       by (Err fault) is e = by_name (free_name content top d name) refl (is ∙ ap Err (sym (same_fault g fault e)))
       by (Ok directory) is (Err fault, number, e) = inr (subst IsNoNumber (sym (same_fault g fault e)) (none_given state tree memory fault number))
       by (Ok directory) is (Ok n, number, e) =
           let b = then_ok (free_name content top d name) if_roomy directory is in
           let free = free_so content top d name b.0 b.1 in
-          inr (elim (then_fails (addition_in state tree d directory name) (new_in_room state tree memory n directory inode) g (sym e)) [
+          inr (elim (then_fails (addition_in state tree d directory name) (named_by n directory) g (sym e)) [
             | inl none ↦ inl (no_addition state tree d name free.found free.found_is directory g none)
-            | inr a ↦ elim (then_fails (commit_in_room state tree memory 31 n directory (Added a.0)) (λ commit. Ok (record { inode = inode; commit = commit })) g a.2) [
-              | inl none ↦ inl (inl (commit_full 31 n directory (Added a.0) none))
-              | inr c ↦ absurd (cc c.2)
-            ]
+            | inr a ↦ inl (inl (commit_full 31 n directory (Added a.0) a.2))
           ])
 
   -- an inode gets one more name
@@ -384,17 +383,17 @@ module _ (T : Types) (state state' : StoreState) (volume volume' : Volume) (d : 
   new_refused : (middle : Volume) (inode : List ℕ) → NewDoes T state state' volume middle d name inode (Err fault) → Said middle fault
   new_refused middle inode (planned, is_planned, does, none, same) = (
     same,
-    elim (planned_refused T volume.tree.fs.number (new_plan name) planned state state' fault does) [
-      | inl none ↦ inl (none.0, new_fault state volume d name fault inode (subst (IsNewPlanned state volume.tree volume.memory d name inode) none.1 is_planned))
+    elim (planned_refused T volume.tree.fs.number (new_plan name inode) planned state state' fault does) [
+      | inl none ↦ inl (none.0, new_fault state volume d name fault (subst (IsNewPlanned state volume.tree volume.memory d name) none.1 is_planned))
       | inr store ↦ inr store
     ],
   )
 
   -- of what was planned for a new inode
-  abbrev DoesNew : List ℕ → Volume → Result NewPlan Fault → Type 0
+  abbrev DoesNew : List ℕ → Volume → Result CommitPlan Fault → Type 0
   DoesNew inode middle made = NewDoes T state state' volume middle d name inode made
 
-  of_made : (inode : List ℕ) (middle : Volume) (made : Result NewPlan Fault) → DoesNew inode middle made → ◌≡◌ {A = Result ℕ Fault} (Err fault) (number_of_plan made) →
+  of_made : (inode : List ℕ) (middle : Volume) (made : Result CommitPlan Fault) → DoesNew inode middle made → ◌≡◌ {A = Result ℕ Fault} (Err fault) (number_of_plan made) →
       Said middle fault × (made ≡ Err fault)
   of_made inode middle (Ok plan) does e = absurd (cc e)
   of_made inode middle (Err other) does e =

@@ -186,7 +186,7 @@ module _ (T : Types) (state state' : StoreState) (volume : Volume) (d : ℕ) (na
   abbrev seen : Files
   seen = files_in state volume
 
-  module _ (plan : CommitPlan) (p : IsSecondPlan state volume.tree volume.memory d name [] plan) where
+  module _ (plan : CommitPlan) (p : IsSecondPlan state volume.tree volume.memory d name plan) where
     abbrev n : ℕ
     n = p.n
 
@@ -220,7 +220,7 @@ module _ (T : Types) (state state' : StoreState) (volume : Volume) (d : ℕ) (na
     end = name_end volume.memory p.ended
 
     abbrev commit : CommitPlan
-    commit = replacing_of state volume.tree volume.memory d name [] n p.directory end
+    commit = replacing_of state volume.tree volume.memory d name n p.directory end
 
     abbrev starts : List Start
     starts = node_starts node inode (table_nodes commit) ++ []
@@ -379,7 +379,7 @@ module _ (T : Types) (state state' : StoreState) (volume : Volume) (d : ℕ) (na
   abbrev Said : Volume → ℕ → Type 0
   Said volume' n = IsOpen T state' volume' × (seen n ≡ None) × (replaced seen clock d name n inode_now ≡ Ok (files_in state' volume'))
 
-  second_said : (volume' : Volume) (n : ℕ) (plan : CommitPlan) → IsSecondPlan state volume.tree volume.memory d name [] plan →
+  second_said : (volume' : Volume) (n : ℕ) (plan : CommitPlan) → IsSecondPlan state volume.tree volume.memory d name plan →
       IsPlanned T state state' volume d name is_open wide block inode_now y_is true volume' n plan → Said volume' n
   second_said volume' n plan p (is_planned, does, number, is) =
       let whole = said plan p (carried plan p (subst (λ x. Does T fs (commit_plan name block x) state state' (Ok tt)) p.plan_is does)) in
@@ -390,7 +390,7 @@ module _ (T : Types) (state state' : StoreState) (volume : Volume) (d : ℕ) (na
   pub replaced_said : (volume' : Volume) (number : ℕ) → CommitDoes T state state' volume volume' block d name true (Ok number) → Said volume' number
   replaced_said volume' number does =
       let c = planned_so T state state' volume d name is_open wide block inode_now y_is true volume' number does in
-      elim (second_planned state volume.tree volume.memory d name [] c.0 c.1.0) [
+      elim (second_planned state volume.tree volume.memory d name c.0 c.1.0) [
         | inl p ↦
             let first = first_said T state state' volume d name is_open wide block inode_now y_is true volume' number c.0 p c.1 in
             (first.0, first.1.1, replaces_none seen (files_in state' volume') clock d name number inode_now first.1.0 first.1.2)

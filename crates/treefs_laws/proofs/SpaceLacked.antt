@@ -28,7 +28,6 @@ use Rattle.treefs_name_plans.specs.RenamePlans.{rename_plan}
 use Rattle.treefs_name_plans.specs.declared.commit_plan.CommitPlan.{CommitPlan}
 use Rattle.treefs_name_plans.specs.declared.link_plan.LinkPlan.{LinkPlan}
 use Rattle.treefs_name_plans.specs.declared.name_end.NameEnd.{NameEnd}
-use Rattle.treefs_name_plans.specs.declared.new_plan.NewPlan.{NewPlan}
 use Rattle.treefs_name_plans.specs.declared.rename_plan.RenamePlan.{RenamePlan}
 use Rattle.treefs.specs.Committing.{BeginsOne, CommitDoes, committed_volume}
 use Rattle.treefs.specs.Creating.{BeginDoes, CreateDoes, MkdirDoes, NewDoes, SymlinkDoes, moved_volume, new_fields, number_of}
@@ -101,12 +100,12 @@ module _ (T : Types) (old new : StoreState) (volume volume' : Volume) (is_open :
 
 module _ (T : Types) (state state' : StoreState) (volume volume' : Volume) (is_open : IsOpen T state volume) (d : ℕ) (name : List ℕ) (fault : Fault)
     (space : LacksSpace fault) where
-  new_leaves : (between : Volume) (inode : List ℕ) (made : Result NewPlan Fault) → Err fault ≡ number_of made →
+  new_leaves : (between : Volume) (inode : List ℕ) (made : Result CommitPlan Fault) → Err fault ≡ number_of made →
       NewDoes T state state' volume between d name inode made →
       (between ≡ volume → volume' ≡ volume) → LeavesFiles T state state' volume volume'
   new_leaves between inode (Ok plan) is does same = absurd (cc is)
   new_leaves between inode (Err other) is (planned, is_planned, does, told, still) same =
-      leaves_planned T state state' volume volume' is_open (as_plan (new_plan name) planned) other (subst LacksSpace (same_fault fault other is) space) does
+      leaves_planned T state state' volume volume' is_open (as_plan (new_plan name inode) planned) other (subst LacksSpace (same_fault fault other is) space) does
       (same still)
 
   pub create_leaves : (attributes : Attributes) → CreateDoes T state state' volume volume' d name attributes (Err fault) →
@@ -121,7 +120,7 @@ module _ (T : Types) (state state' : StoreState) (volume volume' : Volume) (is_o
       LeavesFiles T state state' volume volume'
   mkdir_leaves attributes (made, middle, does, moved, is) = new_leaves middle _ made is does (λ same. moved ∙ (by made is ∙ same))
     where
-      by : (made : Result NewPlan Fault) → Err fault ≡ number_of made → moved_volume state' middle made ≡ middle
+      by : (made : Result CommitPlan Fault) → Err fault ≡ number_of made → moved_volume state' middle made ≡ middle
       by (Ok plan) is = absurd (cc is)
       by (Err other) is = refl
 

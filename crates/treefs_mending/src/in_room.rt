@@ -39,9 +39,7 @@ pub fn make_all_in_room<S: Store>(
 {
     let mut rest = VecDeque::from(acts);
     while let Some(act) = rest.pop_front() {
-        if let Err(fault) = make_in_room(store, tree, memory, act) {
-            return Err(fault);
-        }
+        make_in_room(store, tree, memory, act)?;
     }
     Ok(())
 }

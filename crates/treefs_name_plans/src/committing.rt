@@ -89,7 +89,7 @@ impl CommitPlan {
     }
 
     /// Adds the acts, where these blocks were begun: the nodes of the table, and those for the record.
-    fn push_acts(
+    fn push_acts_of(
         &self,
         alloc: Global,
         acts: &mut Vec<Act>,
@@ -109,42 +109,45 @@ impl CommitPlan {
         self.naming.push_ends(alloc, acts)
     }
 
-    /// The acts, where these blocks were begun.
-    pub(crate) fn acts(
+    /// Adds the acts, where these blocks were begun.
+    pub(crate) fn push_acts(
         &self,
         alloc: Global,
+        acts: &mut Vec<Act>,
         name: &[u8],
         inode: u32,
         begun: &[u32],
-    ) -> Result<Vec<Act>, AllocError>
+    ) -> Result<(), AllocError>
         requires { length name.now ≤ 255 }
-        ensures { IfOk result (λ acts. acts.items ≡ commit_acts self.now name.now inode begun.now) }
+        ensures { IfOk result (λ _. acts.new.items ≡ acts.old.items ++ commit_acts self.now name.now inode begun.now) }
     {
         let offsets = self.table_path();
         let nodes = front(offsets.as_slice(), self.missing.saturating_sub(1)).len();
-        let mut acts = Vec::new(alloc);
-        self.push_acts(
+        self.push_acts_of(
             alloc,
-            &mut acts,
+            acts,
             name,
             inode,
             front(begun, nodes),
             behind(begun, nodes),
-        )?;
-        Ok(acts)
+        )
     }
 }
 
 impl<'a> Planned for Committing<'a> {
     ghost plan = { λ committing. commit_plan committing.name.now committing.inode committing.plan };
 
-    fn starts(&self, alloc: Global) -> Result<Vec<Start>, AllocError> {
-        let mut starts = Vec::new(alloc);
-        self.plan.push_starts(&mut starts)?;
-        Ok(starts)
+    fn push_starts(&self, starts: &mut Vec<Start>) -> Result<(), AllocError> {
+        self.plan.push_starts(starts)
     }
 
-    fn acts(&self, alloc: Global, begun: &[u32]) -> Result<Vec<Act>, AllocError> {
-        self.plan.acts(alloc, self.name, self.inode, begun)
+    fn push_acts(
+        &self,
+        alloc: Global,
+        acts: &mut Vec<Act>,
+        begun: &[u32],
+    ) -> Result<(), AllocError> {
+        self.plan
+            .push_acts(alloc, acts, self.name, self.inode, begun)
     }
 }

@@ -2,17 +2,14 @@
 
 ghost use Rattle.std.specs.Prelude.{◌≡◌, ◌≤◌, length, IfOk, Ok, OnOk};
 ghost use Rattle.treefs_model.specs.Files.{and_then};
-ghost use Rattle.treefs_format.specs.Paths.{leaf_count};
 ghost use Rattle.treefs_lookup.specs.Readable.{readable};
 ghost use Rattle.treefs_name_plans.specs.NewNames.{IsWithinBlocks, place_in};
-ghost use Rattle.treefs_name_plans.specs.NewPlans.{IsNewPlanned, free_in_room, new_in_room};
+ghost use Rattle.treefs_name_plans.specs.NewPlans.{IsNewPlanned, free_in_room};
 
-use crate::addition::Addition;
 use crate::commit::commit_in_room;
+use crate::commit_plan::CommitPlan;
 use crate::naming::Naming;
 use crate::new_names::{LookedUp, find_addition, find_free_name};
-use crate::new_plan::NewPlan;
-use store_types::BLOCK_LEN;
 use treefs_edits::{Memory, Tree, has_room};
 use treefs_lookup::find_number;
 use treefs_model::Fault;
@@ -39,42 +36,21 @@ fn find_free_in_room<S: Store>(
     Ok(found)
 }
 
-/// What a new inode with its first name takes, where there is room for it; else the fault is `Full`.
-fn new_in_room<S: Store>(
-    store: &S,
-    tree: Tree,
-    memory: &Memory,
-    number: u32,
-    directory: u32,
-    inode: &[u8; BLOCK_LEN],
-    addition: Addition,
-) -> Result<NewPlan, Fault>
-    requires { number ≤ leaf_count }
-    ensures { result ≡ new_in_room (S.state_of store.now) tree memory.now number directory inode.now addition }
-{
-    let naming = Naming::Added(addition);
-    let commit = commit_in_room(store, tree, memory, 31, number, directory, naming)?;
-    Ok(NewPlan {
-        inode: *inode,
-        commit,
-    })
-}
-
-/// What a new inode, with these bytes in its block, and its first name take. The faults are those of the directory, `BadName`, `Exists`, `Full`,
-/// then of the number `Full` and `NoInode`, then `Full` or `TooLarge` where there is no place for the name, and `Full` where there is no room.
+/// What the first name of a new inode takes. The faults are those of the directory, `BadName`, `Exists`, `Full`, then of the number `Full` and `NoInode`, then
+/// `Full` or `TooLarge` where there is no place for the name, and `Full` where there is no room.
 pub fn plan_new<S: Store>(
     store: &S,
     tree: Tree,
     memory: &Memory,
     directory: u32,
     name: &[u8],
-    inode: &[u8; BLOCK_LEN],
-) -> Result<NewPlan, Fault>
-    ensures planned { IsNewPlanned (S.state_of store.now) tree memory.now directory name.now inode.now result }
+) -> Result<CommitPlan, Fault>
+    ensures planned { IsNewPlanned (S.state_of store.now) tree memory.now directory name.now result }
     ensures short { OnOk result (length name.now ≤ 255) }
 {
     let free = find_free_in_room(store, tree, memory, directory, name)?;
     let number = find_number(store, tree.fs, tree.top, memory.hint)?;
     let addition = find_addition(store, tree, free.directory, free.place)?;
-    new_in_room(store, tree, memory, number, free.directory, inode, addition)
+    let naming = Naming::Added(addition);
+    commit_in_room(store, tree, memory, 31, number, free.directory, naming)
 }

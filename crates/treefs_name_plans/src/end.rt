@@ -18,9 +18,7 @@ pub struct EndPlan {
 impl ActsAlone for EndPlan {
     ghost acts_of = { λ p. end_acts p.end p.behind };
 
-    fn acts_alone(&self, alloc: Global) -> Result<Vec<Act>, AllocError> {
-        let mut acts = Vec::new(alloc);
-        self.end.push_acts(alloc, &mut acts, self.behind)?;
-        Ok(acts)
+    fn push_alone(&self, alloc: Global, acts: &mut Vec<Act>) -> Result<(), AllocError> {
+        self.end.push_acts(alloc, acts, self.behind)
     }
 }

@@ -39,15 +39,16 @@ impl LinkPlan {
 impl<'a> Planned for Linking<'a> {
     ghost plan = { λ linking. link_plan linking.name.now linking.plan };
 
-    fn starts(&self, alloc: Global) -> Result<Vec<Start>, AllocError> {
-        let mut starts = Vec::new(alloc);
-        self.plan.addition.push_starts(&mut starts)?;
-        Ok(starts)
+    fn push_starts(&self, starts: &mut Vec<Start>) -> Result<(), AllocError> {
+        self.plan.addition.push_starts(starts)
     }
 
-    fn acts(&self, alloc: Global, begun: &[u32]) -> Result<Vec<Act>, AllocError> {
-        let mut acts = Vec::new(alloc);
-        self.plan.push_acts(alloc, &mut acts, self.name, begun)?;
-        Ok(acts)
+    fn push_acts(
+        &self,
+        alloc: Global,
+        acts: &mut Vec<Act>,
+        begun: &[u32],
+    ) -> Result<(), AllocError> {
+        self.plan.push_acts(alloc, acts, self.name, begun)
     }
 }

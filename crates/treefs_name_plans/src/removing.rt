@@ -38,12 +38,10 @@ fn push_waits(
 impl ActsAlone for RemovalPlan {
     ghost acts_of = { removal_acts };
 
-    fn acts_alone(&self, alloc: Global) -> Result<Vec<Act>, AllocError> {
+    fn push_alone(&self, alloc: Global, acts: &mut Vec<Act>) -> Result<(), AllocError> {
         let pending = self.pending.as_slice();
-        let mut acts = Vec::new(alloc);
         let others = behind(pending, 1);
-        push_waits(alloc, &mut acts, self.end.block, self.first, others)?;
-        self.end.push_acts(alloc, &mut acts, first_of(pending))?;
-        Ok(acts)
+        push_waits(alloc, acts, self.end.block, self.first, others)?;
+        self.end.push_acts(alloc, acts, first_of(pending))
     }
 }

@@ -140,17 +140,18 @@ impl RenamePlan {
 impl<'a> Planned for Renaming<'a> {
     ghost plan = { λ renaming. rename_plan renaming.name.now renaming.plan };
 
-    fn starts(&self, alloc: Global) -> Result<Vec<Start>, AllocError> {
-        let mut starts = Vec::new(alloc);
-        self.plan.naming.push_starts(&mut starts)?;
-        Ok(starts)
+    fn push_starts(&self, starts: &mut Vec<Start>) -> Result<(), AllocError> {
+        self.plan.naming.push_starts(starts)
     }
 
-    fn acts(&self, alloc: Global, begun: &[u32]) -> Result<Vec<Act>, AllocError> {
-        let mut acts = Vec::new(alloc);
-        self.plan.naming.push_rewriting(alloc, &mut acts)?;
-        self.plan.push_moving(alloc, &mut acts, begun, self.name)?;
-        self.plan.naming.push_ends(alloc, &mut acts)?;
-        Ok(acts)
+    fn push_acts(
+        &self,
+        alloc: Global,
+        acts: &mut Vec<Act>,
+        begun: &[u32],
+    ) -> Result<(), AllocError> {
+        self.plan.naming.push_rewriting(alloc, acts)?;
+        self.plan.push_moving(alloc, acts, begun, self.name)?;
+        self.plan.naming.push_ends(alloc, acts)
     }
 }

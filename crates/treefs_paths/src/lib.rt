@@ -8,5 +8,5 @@ mod names;
 mod steps;
 mod way;
 
-pub use components::{Component, Parts, find_parent, split_path};
+pub use components::{Parts, split_path};
 pub use finding::find_path;

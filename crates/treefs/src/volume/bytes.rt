@@ -50,12 +50,8 @@ impl Volume {
     {
         let fs = self.tree.fs;
         let memory = &mut self.memory;
-        if let Err(fault) = make_room(&mut memory.touched, 1) {
-            return Err(fault);
-        }
-        if let Err(fault) = carry_out(alloc, store, fs, plan) {
-            return Err(fault);
-        }
+        make_room(&mut memory.touched, 1)?;
+        carry_out(alloc, store, fs, plan)?;
         let now = now_times(memory);
         note_change(&mut memory.touched, now, number, is_dated);
         Ok(taken)

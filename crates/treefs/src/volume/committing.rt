@@ -26,10 +26,7 @@ fn plan_begun<S: Store>(
     ensures planned { IsBegunPlanned (S.state_of store.now) tree memory.now inode directory name.now replace result }
     ensures short { OnOk result (length name.now ≤ 255) }
 {
-    let plan = match plan_commit(store, tree, memory, directory, name, replace) {
-        Ok(plan) => plan,
-        Err(fault) => return Err(fault),
-    };
+    let plan = plan_commit(store, tree, memory, directory, name, replace)?;
     match store.read(tree.fs, inode) {
         Ok(_) => Ok(plan),
         Err(reason) => Err(Fault::Kernel(reason)),
@@ -84,12 +81,8 @@ impl Volume {
     {
         let tree = self.tree;
         let memory = &mut self.memory;
-        if let Err(fault) = make_rooms(&mut memory.touched, 1, &mut memory.orphans) {
-            return Err(fault);
-        }
-        if let Err(fault) = carry_out(alloc, store, tree.fs, planned) {
-            return Err(fault);
-        }
+        make_rooms(&mut memory.touched, 1, &mut memory.orphans)?;
+        carry_out(alloc, store, tree.fs, planned)?;
         let now = now_times(memory);
         touch_naming(&mut memory.touched, now, directory, &plan.naming);
         note_replaced(&mut memory.orphans, &plan.naming);

@@ -16,7 +16,7 @@ use treefs_format::inodes::new_inode;
 use treefs_format::types::LEAF_TYPE;
 use treefs_format::{Fields, Kind};
 use treefs_model::Fault;
-use treefs_name_plans::{CommitPlan, MakingNew, NewPlan, plan_new};
+use treefs_name_plans::{CommitPlan, MakingNew, plan_new};
 use xn_state::Store;
 
 /// What a new inode says before its pointers. `parent` is the directory that a directory stands in, else 0.
@@ -108,14 +108,14 @@ impl Volume {
         directory: u32,
         name: &[u8],
         inode: &[u8; BLOCK_LEN],
-    ) -> Result<NewPlan, Fault>
+    ) -> Result<CommitPlan, Fault>
         ensures types { S.types_of store.new ≡ S.types_of store.old }
         ensures does { NewDoes (S.types_of store.old) (S.state_of store.old) (S.state_of store.new) self.old self.new directory name.now inode.now result }
     {
-        match plan_new(store, self.tree, &self.memory, directory, name, inode) {
+        match plan_new(store, self.tree, &self.memory, directory, name) {
             Ok(plan) => {
-                let making = MakingNew { plan, name };
-                match self.name_inode(alloc, store, directory, &making, &plan.commit) {
+                let making = MakingNew { plan, inode, name };
+                match self.name_inode(alloc, store, directory, &making, &plan) {
                     Ok(()) => Ok(plan),
                     Err(fault) => Err(fault),
                 }
@@ -141,7 +141,7 @@ impl Volume {
     {
         let inode = new_block(self.tree, &self.memory, Kind::File, attributes, 0, &[]);
         match self.make(alloc, store, directory, name, &inode) {
-            Ok(plan) => Ok(plan.commit.number),
+            Ok(plan) => Ok(plan.number),
             Err(fault) => Err(fault),
         }
     }
@@ -171,13 +171,13 @@ impl Volume {
             target,
         );
         match self.make(alloc, store, directory, name, &inode) {
-            Ok(plan) => Ok(plan.commit.number),
+            Ok(plan) => Ok(plan.number),
             Err(fault) => Err(fault),
         }
     }
 
     /// Notes that the record of a new directory is the last one by which a directory was made or moved.
-    fn note_directory<S: Store>(&mut self, store: &S, plan: &NewPlan)
+    fn note_directory<S: Store>(&mut self, store: &S, plan: &CommitPlan)
         ensures { self.new ≡ moved_volume (S.state_of store.now) self.old (Ok plan.now) }
     {
         let fs = self.tree.fs;
@@ -186,7 +186,7 @@ impl Volume {
             directory,
             naming,
             ..
-        } = &plan.commit;
+        } = plan;
         memory.last_dir = naming_entry(store, fs, *directory, naming, memory.last_dir);
     }
 
@@ -214,7 +214,7 @@ impl Volume {
         match self.make(alloc, store, directory, name, &inode) {
             Ok(plan) => {
                 self.note_directory(store, &plan);
-                Ok(plan.commit.number)
+                Ok(plan.number)
             }
             Err(fault) => Err(fault),
         }

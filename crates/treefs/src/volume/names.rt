@@ -70,12 +70,8 @@ impl Volume {
     {
         let tree = self.tree;
         let memory = &mut self.memory;
-        if let Err(fault) = make_rooms(&mut memory.touched, 1, &mut memory.orphans) {
-            return Err(fault);
-        }
-        if let Err(fault) = carry_out(alloc, store, tree.fs, planned) {
-            return Err(fault);
-        }
+        make_rooms(&mut memory.touched, 1, &mut memory.orphans)?;
+        carry_out(alloc, store, tree.fs, planned)?;
         let now = now_times(memory);
         touch_end(&mut memory.touched, now, directory, end);
         note_orphan(&mut memory.orphans, end);
@@ -119,12 +115,8 @@ impl Volume {
     {
         let tree = self.tree;
         let memory = &mut self.memory;
-        if let Err(fault) = make_room(&mut memory.touched, 1) {
-            return Err(fault);
-        }
-        if let Err(fault) = carry_out(alloc, store, tree.fs, &Linking { plan, name }) {
-            return Err(fault);
-        }
+        make_room(&mut memory.touched, 1)?;
+        carry_out(alloc, store, tree.fs, &Linking { plan, name })?;
         let now = now_times(memory);
         let last_link = record_entry(
             store,

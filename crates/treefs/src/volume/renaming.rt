@@ -68,16 +68,12 @@ impl Volume {
     {
         let tree = self.tree;
         let memory = &mut self.memory;
-        if let Err(fault) = make_rooms(&mut memory.touched, 3, &mut memory.orphans) {
-            return Err(fault);
-        }
+        make_rooms(&mut memory.touched, 3, &mut memory.orphans)?;
         let renaming = Renaming {
             plan,
             name: new_name,
         };
-        if let Err(fault) = carry_out(alloc, store, tree.fs, &renaming) {
-            return Err(fault);
-        }
+        carry_out(alloc, store, tree.fs, &renaming)?;
         let now = now_times(memory);
         let last_dir = moved_entry(store, &plan, memory.last_dir);
         touch_rename(&mut memory.touched, now, directory, new_directory, &plan);

@@ -59,9 +59,7 @@ impl Volume {
     {
         let fs = self.tree.fs;
         let memory = &mut self.memory;
-        if let Err(fault) = carry_out(alloc, store, fs, plan) {
-            return Err(fault);
-        }
+        carry_out(alloc, store, fs, plan)?;
         forget_touch(&mut memory.touched, number);
         Ok(())
     }
@@ -73,12 +71,8 @@ impl Volume {
     {
         let tree = self.tree;
         let memory = &mut self.memory;
-        if let Err(fault) = ask_for_touch(store, tree, memory, number) {
-            return Err(fault);
-        }
-        if let Err(fault) = make_room(&mut memory.touched, 1) {
-            return Err(fault);
-        }
+        ask_for_touch(store, tree, memory, number)?;
+        make_room(&mut memory.touched, 1)?;
         let times = Times {
             mtime,
             ctime: memory.clock,
